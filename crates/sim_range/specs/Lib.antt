@@ -6,3 +6,4 @@ pub mod Sights
 pub mod Areas
 pub mod Keeping
 pub mod RangeWords
+pub mod Calling

@@ -2,6 +2,7 @@
 
 ghost use Rattle.std.specs.Prelude.{◌≡◌, ℕ, ◌/◌, ◌<◌, ◌≤◌, true, false, ℤ, pos, ◌-ℤ◌, ◌≤ℤ◌, ◌<ℤ◌, IfSome, unsigned_abs};
 ghost use Rattle.sim_range.specs.{Areas.AreApart, Areas.IsBeside, Areas.IsIn, Areas.IsOut, Buckets.bucket_at, Common.IsPlaced, Common.Point};
+ghost use Rattle.sim_range.specs.Calling.{AreOnGround};
 
 use sim_base::{Fixed, Point};
 use sim_system::Fact;
@@ -65,8 +66,7 @@ fn between(from: &Point, to: &Point, reach: u32) -> Area
 
 /// The area within reach of where an entity was kept, if it was, and of where it is kept, if it is.
 pub fn area_of(before: &Option<Fact>, after: &Option<Fact>, reach: u32) -> Area
-    requires before { IfSome before.now (λ fact. IsPlaced fact.at) }
-    requires after { IfSome after.now (λ fact. IsPlaced fact.at) }
+    requires { AreOnGround before.now after.now }
     ensures order { result.rows.first ≤ result.rows.end }
     ensures end { result.rows.end ≤ 16 }
     ensures before { (k : ℕ) → IsBeside k result → IsOut k reach before.now }

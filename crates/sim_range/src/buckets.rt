@@ -3,6 +3,7 @@
 ghost use Rattle.std.specs.Prelude.{◌≡◌, ℕ, ◌<◌, [], length, IfSome, IfOk, OnOk, IsSome, slice_index_or};
 ghost use Rattle.sim_range.specs.{Buckets.ArePlaced, Buckets.bucket_at, Buckets.is_in, Common.Ascend, Common.IsPlaced, Common.with_only};
 ghost use Rattle.sim_range.specs.Bucketed.{AreBuckets, changed_at, facts_at, HasRoom, HaveRoom, left_at};
+ghost use Rattle.sim_range.specs.Calling.{AreOnGround, Become};
 
 use crate::bucket::Bucket;
 use sim_base::{OutOfMemory, Point, cell_of};
@@ -51,8 +52,7 @@ pub fn buckets_of(alloc: Global, facts: &[Fact]) -> Result<Vec<Bucket>, OutOfMem
 pub fn make_room(buckets: &mut Vec<Bucket>, part: &Option<Fact>) -> Result<(), OutOfMemory>
     requires whole { length buckets.old.items ≡ 256 }
     requires placed { IfSome part.now (λ fact. IsPlaced fact.at) }
-    ensures whole { length buckets.new.items ≡ 256 }
-    ensures same { (k : ℕ) (d : Bucket) → k < 256 → facts_at buckets.new.items k d ≡ facts_at buckets.old.items k d }
+    ensures still { Become (λ k facts. facts) buckets.old.items buckets.new.items }
     ensures room { OnOk result (HaveRoom part.now buckets.new.items) }
 {
     if let Some(fact) = part {
@@ -87,11 +87,9 @@ fn has(part: &Option<Fact>, number: usize) -> bool
 // An entity leaves its bucket, if it had one, unless it stays there.
 fn leave(buckets: &mut Vec<Bucket>, id: u32, before: &Option<Fact>, after: &Option<Fact>)
     requires whole { length buckets.old.items ≡ 256 }
-    requires old { IfSome before.now (λ fact. IsPlaced fact.at) }
-    requires new { IfSome after.now (λ fact. IsPlaced fact.at) }
+    requires ends { AreOnGround before.now after.now }
     requires room { HaveRoom after.now buckets.old.items }
-    ensures whole { length buckets.new.items ≡ 256 }
-    ensures left { (k : ℕ) (d : Bucket) → k < 256 → facts_at buckets.new.items k d ≡ left_at k id before.now after.now (facts_at buckets.old.items k d) }
+    ensures left { Become (λ k facts. left_at k id before.now after.now facts) buckets.old.items buckets.new.items }
     ensures room { HaveRoom after.now buckets.new.items }
 {
     if let Some(fact) = before {
@@ -105,12 +103,10 @@ fn leave(buckets: &mut Vec<Bucket>, id: u32, before: &Option<Fact>, after: &Opti
 /// Changes the buckets as what is kept of an entity has changed. The room was made before.
 pub fn change(buckets: &mut Vec<Bucket>, id: u32, before: &Option<Fact>, after: &Option<Fact>)
     requires whole { length buckets.old.items ≡ 256 }
-    requires old { IfSome before.now (λ fact. IsPlaced fact.at) }
-    requires new { IfSome after.now (λ fact. IsPlaced fact.at) }
+    requires ends { AreOnGround before.now after.now }
     requires named { IfSome after.now (λ fact. fact.id ≡ id) }
     requires room { HaveRoom after.now buckets.old.items }
-    ensures whole { length buckets.new.items ≡ 256 }
-    ensures changed { (k : ℕ) (d : Bucket) → k < 256 → facts_at buckets.new.items k d ≡ changed_at k id before.now after.now (facts_at buckets.old.items k d) }
+    ensures { Become (λ k facts. changed_at k id before.now after.now facts) buckets.old.items buckets.new.items }
 {
     leave(buckets, id, before, after);
     if let Some(fact) = after {

@@ -2,7 +2,7 @@
 //! entity before and after, as far as they see anybody.
 
 ghost use Rattle.std.specs.Prelude.{◌≡◌, ◌/◌, ◌<◌, ◌≤◌, ◌↔◌, ℤ, pos, ◌-ℤ◌, ◌≤ℤ◌, ◌<ℤ◌, IfSome, IsTrue, unsigned_abs};
-ghost use Rattle.sim_range.specs.{Areas.IsClose, Areas.IsInner, Common.IsPlaced, Sights.HasOnlyMoved};
+ghost use Rattle.sim_range.specs.{Areas.IsClose, Areas.IsInner, Calling.AreOnGround, Common.IsPlaced, Sights.HasOnlyMoved};
 
 use sim_base::{Fixed, Point, square};
 use sim_system::Fact;
@@ -67,8 +67,7 @@ fn is_between(number: usize, from: &Fact, to: &Fact, near: u32) -> bool
 /// Whether an entity has only moved, and all points of a bucket are at most so far from where it was and from where it is.
 pub fn is_inner(number: usize, before: &Option<Fact>, after: &Option<Fact>, near: u32) -> bool
     requires number { number < 256 }
-    requires before { IfSome before.now (λ fact. IsPlaced fact.at) }
-    requires after { IfSome after.now (λ fact. IsPlaced fact.at) }
+    requires ends { AreOnGround before.now after.now }
     ensures { IsTrue result → IsInner number near before.now after.now }
 {
     match (before, after) {

@@ -2,8 +2,8 @@
 //! stands, before anything is changed.
 
 ghost use Rattle.std.specs.Prelude.{◌≡◌, ◌%◌, ◌<◌, false, ◌⊎◌, ◌++◌, length, IfSome, OnOk, Some, All};
-ghost use Rattle.sim_range.specs.{Areas.IsIn, Areas.IsInner, Buckets.ArePlaced, Common.fact_with, Common.Holds, Common.IsHeld, Common.IsLand, Common.IsPlaced};
-ghost use Rattle.sim_range.specs.Bucketed.{AreBuckets};
+ghost use Rattle.sim_range.specs.{Areas.IsIn, Areas.IsInner, Common.fact_with, Common.Holds, Common.IsHeld, Common.IsLand};
+ghost use Rattle.sim_range.specs.Calling.{AreHeldOn, AreOnGround, AreSorted};
 ghost use Rattle.sim_range.specs.Sights.{AreChanging, AreInView, AreSights, SeesFrom, SeesWithin, sight, turned_seen, turned_watchers, view};
 
 use crate::area::{Span, area_of};
@@ -46,8 +46,7 @@ impl Plan {
     ) -> Result<(), OutOfMemory>
         requires limits { IsLand land.now }
         requires held { All (IsHeld land.now) facts.now }
-        requires before { IfSome before.now (IsHeld land.now) }
-        requires after { IfSome after.now (IsHeld land.now) }
+        requires parts { AreHeldOn land.now before.now after.now }
         ensures watchers { OnOk result (self.new.watchers.items ≡ self.old.watchers.items ++ turned_watchers land.now before.now after.now facts.now) }
         ensures seen { OnOk result (self.new.seen.items ≡ self.old.seen.items ++ turned_seen land.now before.now after.now facts.now) }
     {
@@ -72,16 +71,11 @@ impl Plan {
         before: &Option<Fact>,
         after: &Option<Fact>,
     ) -> Result<(), OutOfMemory>
-        requires holds { Holds land.now facts.now }
-        requires placed { ArePlaced facts.now }
-        requires bucketed { AreBuckets facts.now buckets.now }
-        requires whole { length buckets.now ≡ 256 }
+        requires crowd { AreSorted land.now facts.now buckets.now }
         requires near { All (SeesFrom visions.now.near) facts.now }
         requires far { All (SeesWithin visions.now.far) facts.now }
-        requires before { IfSome before.now (IsHeld land.now) }
-        requires after { IfSome after.now (IsHeld land.now) }
-        requires before_at { IfSome before.now (λ fact. IsPlaced fact.at) }
-        requires after_at { IfSome after.now (λ fact. IsPlaced fact.at) }
+        requires parts { AreHeldOn land.now before.now after.now }
+        requires ends { AreOnGround before.now after.now }
         requires before_near { IfSome before.now (SeesFrom visions.now.near) }
         requires before_far { IfSome before.now (SeesWithin visions.now.far) }
         requires after_far { IfSome after.now (SeesWithin visions.now.far) }
@@ -138,8 +132,7 @@ fn is_concerned(
     near: u32,
 ) -> bool
     requires number { number < 256 }
-    requires before { IfSome before.now (λ fact. IsPlaced fact.at) }
-    requires after { IfSome after.now (λ fact. IsPlaced fact.at) }
+    requires ends { AreOnGround before.now after.now }
     ensures { result ≡ false → (IsIn columns.now (number % 16) → ⊥) ⊎ IsInner number near before.now after.now }
 {
     columns.has(number % 16) && !is_inner(number, before, after, near)

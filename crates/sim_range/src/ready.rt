@@ -2,8 +2,9 @@
 //! memory is found leaves all as it was.
 
 ghost use Rattle.std.specs.Prelude.{◌≡◌, ℕ, ◌<◌, length, IfSome, IfOk, OnOk, IsSome, IsTrue, Some, vec_len, vec_capacity};
-ghost use Rattle.sim_range.specs.{Bucketed.AreBuckets, Bucketed.facts_at, Bucketed.HaveRoom, Buckets.ArePlaced, Keeping.AreKept, Keeping.AreReady};
-ghost use Rattle.sim_range.specs.{Common.fact_with, Common.Holds, Common.IsHeld, Common.IsPlaced, Common.with_only, Sights.SeesFrom, Sights.SeesWithin};
+ghost use Rattle.sim_range.specs.Calling.{AreSorted, Become, MayMakeReady};
+ghost use Rattle.sim_range.specs.{Bucketed.AreBuckets, Bucketed.HaveRoom, Buckets.ArePlaced, Keeping.AreKept};
+ghost use Rattle.sim_range.specs.{Keeping.AreReady, Common.fact_with, Common.Holds, Common.IsHeld, Common.with_only};
 
 use crate::bucket::Bucket;
 use crate::buckets::{buckets_of, make_room};
@@ -46,18 +47,7 @@ impl Sights {
         before: &Option<Fact>,
         after: &Option<Fact>,
     ) -> Result<(), OutOfMemory>
-        requires built { IsSome kept.now.land }
-        requires placed { ArePlaced kept.now.facts.items }
-        requires bucketed { AreBuckets kept.now.facts.items buckets.now }
-        requires whole { length buckets.now ≡ 256 }
-        requires kept { IsTrue self.old.keeps → AreKept kept.now.land kept.now.facts.items self.old }
-        requires found { IfSome after.now (λ fact. before.now ≡ fact_with kept.now.facts.items fact.id) }
-        requires before { (l : Land) → kept.now.land ≡ Some l → IfSome before.now (IsHeld l) }
-        requires before_near { IsTrue self.old.keeps → IfSome before.now (SeesFrom self.old.visions.near) }
-        requires before_far { IsTrue self.old.keeps → IfSome before.now (SeesWithin self.old.visions.far) }
-        requires after { (l : Land) → kept.now.land ≡ Some l → IfSome after.now (IsHeld l) }
-        requires from_ground { IfSome before.now (λ fact. IsPlaced fact.at) }
-        requires on_ground { IfSome after.now (λ fact. IsPlaced fact.at) }
+        requires { MayMakeReady kept.now.land kept.now.facts.items buckets.now before.now after.now self.old }
         ensures keeps { self.new.keeps ≡ self.old.keeps }
         ensures kept { IsTrue self.old.keeps → AreKept kept.now.land kept.now.facts.items self.new }
         ensures ready { OnOk result (IsTrue self.old.keeps → AreReady kept.now.land kept.now.facts.items before.now after.now self.new) }
@@ -115,10 +105,7 @@ fn sights_for(
     facts: &[Fact],
     buckets: &[Bucket],
 ) -> Result<Sights, OutOfMemory>
-    requires holds { Holds land.now facts.now }
-    requires placed { ArePlaced facts.now }
-    requires bucketed { AreBuckets facts.now buckets.now }
-    requires whole { length buckets.now ≡ 256 }
+    requires { AreSorted land.now facts.now buckets.now }
     ensures keeps { IfOk result (λ sights. sights.keeps ≡ keeps) }
     ensures kept { IfOk result (λ sights. IsTrue keeps → AreKept (Some land.now) facts.now sights) }
 {
@@ -170,23 +157,11 @@ pub fn make_ready(
     before: &Option<Fact>,
     after: &Option<Fact>,
 ) -> Result<(), OutOfMemory>
-    requires built { IsSome kept.old.land }
-    requires placed { ArePlaced kept.old.facts.items }
-    requires bucketed { AreBuckets kept.old.facts.items buckets.old.items }
-    requires whole { length buckets.old.items ≡ 256 }
-    requires kept { IsTrue sights.old.keeps → AreKept kept.old.land kept.old.facts.items sights.old }
-    requires found { IfSome after.now (λ fact. before.now ≡ fact_with kept.old.facts.items fact.id) }
-    requires before { (l : Land) → kept.old.land ≡ Some l → IfSome before.now (IsHeld l) }
-    requires before_near { IsTrue sights.old.keeps → IfSome before.now (SeesFrom sights.old.visions.near) }
-    requires before_far { IsTrue sights.old.keeps → IfSome before.now (SeesWithin sights.old.visions.far) }
-    requires after { (l : Land) → kept.old.land ≡ Some l → IfSome after.now (IsHeld l) }
-    requires from_ground { IfSome before.now (λ fact. IsPlaced fact.at) }
-    requires on_ground { IfSome after.now (λ fact. IsPlaced fact.at) }
+    requires { MayMakeReady kept.old.land kept.old.facts.items buckets.old.items before.now after.now sights.old }
     ensures land { kept.new.land ≡ kept.old.land }
     ensures facts { kept.new.facts.items ≡ kept.old.facts.items }
     ensures rebuilds { kept.new.rebuilds ≡ kept.old.rebuilds }
-    ensures whole { length buckets.new.items ≡ 256 }
-    ensures buckets { (k : ℕ) (d : Bucket) → k < 256 → facts_at buckets.new.items k d ≡ facts_at buckets.old.items k d }
+    ensures buckets { Become (λ k facts. facts) buckets.old.items buckets.new.items }
     ensures keeps { sights.new.keeps ≡ sights.old.keeps }
     ensures kept { IsTrue sights.old.keeps → AreKept kept.old.land kept.old.facts.items sights.new }
     ensures ready { OnOk result (IsTrue sights.old.keeps → AreReady kept.old.land kept.old.facts.items before.now after.now sights.new) }

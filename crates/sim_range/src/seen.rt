@@ -2,7 +2,7 @@
 //! changed.
 
 ghost use Rattle.std.specs.Prelude.{◌≡◌, length, IfOk, IsSome, MatchOption};
-ghost use Rattle.sim_range.specs.{Bucketed.AreBuckets, Buckets.ArePlaced, Common.fact_with, Common.Holds, Common.IsHeld, Common.seen_among, Sights.sight};
+ghost use Rattle.sim_range.specs.{Calling.AreSorted, Common.fact_with, Common.IsHeld, Common.seen_among, Sights.sight};
 
 use crate::bucket::Bucket;
 use crate::sight::Sight;
@@ -21,10 +21,7 @@ pub fn sight_of(
     buckets: &[Bucket],
     watcher: &Fact,
 ) -> Result<Sight, OutOfMemory>
-    requires holds { Holds land.now facts.now }
-    requires placed { ArePlaced facts.now }
-    requires bucketed { AreBuckets facts.now buckets.now }
-    requires whole { length buckets.now ≡ 256 }
+    requires crowd { AreSorted land.now facts.now buckets.now }
     requires watcher { IsHeld land.now watcher.now }
     ensures { IfOk result (λ own. own.ids.items ≡ sight land.now facts.now watcher.now) }
 {
@@ -48,10 +45,7 @@ pub fn seen(
     buckets: &[Bucket],
     id: u32,
 ) -> Result<Ids, OutOfMemory>
-    requires holds { Holds land.now facts.now }
-    requires placed { ArePlaced facts.now }
-    requires bucketed { AreBuckets facts.now buckets.now }
-    requires whole { length buckets.now ≡ 256 }
+    requires crowd { AreSorted land.now facts.now buckets.now }
     requires sees { MatchOption (fact_with facts.now id) ⊥ (λ fact. IsSome fact.vision) }
     ensures { IfOk result (λ ids. ids ≡ seen_among land.now facts.now (fact_with facts.now id)) }
 {

@@ -2,7 +2,7 @@
 //! changes whether they see it.
 
 ghost use Rattle.std.specs.Prelude.{◌≡◌, ℕ, ◌<◌, map, length, IfSome, IfOk, OnOk, IsSome, IsTrue, slice_index_or, vec_len, vec_capacity};
-ghost use Rattle.sim_range.specs.{Bucketed.AreBuckets, Buckets.ArePlaced};
+ghost use Rattle.sim_range.specs.Calling.{AreSorted};
 ghost use Rattle.sim_range.specs.Common.{Ascend, fact_with, Holds, IsHeld, IsStrictlyIncreasing, with_only};
 ghost use Rattle.sim_range.specs.Sights.{AreChanging, AreSights, HasPlace, HaveRooms, ids_at, ids_of, sight as sight_among, turned};
 
@@ -22,10 +22,7 @@ pub fn sights_of(
     facts: &[Fact],
     buckets: &[Bucket],
 ) -> Result<Vec<Sight>, OutOfMemory>
-    requires holds { Holds land.now facts.now }
-    requires placed { ArePlaced facts.now }
-    requires bucketed { AreBuckets facts.now buckets.now }
-    requires whole { length buckets.now ≡ 256 }
+    requires { AreSorted land.now facts.now buckets.now }
     ensures { IfOk result (λ all. AreSights land.now facts.now all.items) }
 {
     let mut all = Vec::new(alloc);

@@ -1,8 +1,8 @@
 //! Who is near a point: looked for in the buckets about it, or among all where these would be many.
 
 ghost use Rattle.std.specs.Prelude.{◌≡◌, ◌/◌, ◌<◌, ◌≤◌, ◌&&◌, ◌++◌, length, ℤ, pos, ◌-ℤ◌, ◌≤ℤ◌, IfOk, OnOk, IsTrue, unsigned_abs, All};
-ghost use Rattle.sim_range.specs.{Bucketed.AreBuckets, Buckets.ArePlaced, Buckets.bucket_at};
-ghost use Rattle.sim_range.specs.Common.{Holds, in_mask as in_mask_of, is_inside, is_near as is_near_of, IsHeld, IsLand, IsPlaced, size_of, within_among};
+ghost use Rattle.sim_range.specs.{Buckets.bucket_at, Calling.AreSorted};
+ghost use Rattle.sim_range.specs.Common.{in_mask as in_mask_of, is_inside, is_near as is_near_of, IsHeld, IsLand, IsPlaced, size_of, within_among};
 
 use crate::bucket::Bucket;
 use sim_base::{Fixed, Ids, Land, OutOfMemory, Point, square};
@@ -111,10 +111,7 @@ pub fn within(
     radius: Fixed,
     mask: u32,
 ) -> Result<Ids, OutOfMemory>
-    requires holds { Holds land.now facts.now }
-    requires placed { ArePlaced facts.now }
-    requires bucketed { AreBuckets facts.now buckets.now }
-    requires whole { length buckets.now ≡ 256 }
+    requires crowd { AreSorted land.now facts.now buckets.now }
     requires at { IsTrue (is_inside (size_of land.now) at.now) }
     ensures { IfOk result (λ ids. ids ≡ within_among facts.now at.now radius mask) }
 {

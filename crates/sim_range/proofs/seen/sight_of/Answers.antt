@@ -7,4 +7,4 @@ pub turn-requires-clause-ascending : goal.turn-requires-clause-ascending
 turn-requires-clause-ascending c =
     subst IsStrictlyIncreasing (sym (c.into_items.ensures ∙ c.in_ok-near.ensures))
     (increasing _ (chosen_ups (near_by c.args.watcher.now.at c.in-Some.vision c.mask_of-mask.result) c.args.facts.now
-    (rising c.args.facts.now c.requires.holds.held.ascending)))
+    (rising c.args.facts.now c.requires.crowd.holds.held.ascending)))

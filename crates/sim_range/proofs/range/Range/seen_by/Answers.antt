@@ -1,6 +1,13 @@
--- The facts are held on the land.
-use Rattle.sim_range.proofs.Common.{Holds, subst, sym}
+-- The facts are held on the land, and stand in their buckets.
+use Rattle.sim_range.proofs.Common.{ap, is_some}
 use Rattle.sim_range.proofs.range.Range.seen_by.Goals as goal
 
-pub seen-requires-clause-holds : goal.seen-requires-clause-holds
-seen-requires-clause-holds c = subst (Holds c.args.land.now) (sym c.as_slice-facts.ensures.value) (c.args.self.now.kept.held c.args.land.now c.requires.land)
+pub seen-requires-clause-crowd : goal.seen-requires-clause-crowd
+seen-requires-clause-crowd c =
+    let s = c.args.self.now in
+    rw c.as_slice-facts.ensures.value (rw c.as_slice.ensures.value (record {
+      holds = s.kept.held c.args.land.now c.requires.land;
+      placed = s.placed;
+      bucketed = s.bucketed;
+      whole = s.whole (ap is_some c.requires.land);
+    }))

@@ -1,7 +1,13 @@
--- The facts are held on the land.
-use Rattle.sim_range.proofs.Common.{Holds, subst, sym}
+-- The facts are held on the land, and stand in their buckets.
+use Rattle.sim_range.proofs.Common.{ap, is_some}
 use Rattle.sim_range.proofs.range.RangeSystem.ask.Goals as goal
 
-pub within-requires-clause-holds : goal.within-requires-clause-holds
-within-requires-clause-holds c = subst (Holds c.in-Some-Within.land) (sym c.as_slice-facts.ensures.value)
-    (c.args.self.now.kept.held c.in-Some-Within.land c.in-Some-Within.is-0)
+pub within-requires-clause-crowd : goal.within-requires-clause-crowd
+within-requires-clause-crowd c =
+    let s = c.args.self.now in
+    rw c.as_slice-facts.ensures.value (rw c.as_slice-buckets.ensures.value (record {
+      holds = s.kept.held c.in-Some-Within.land c.in-Some-Within.is-0;
+      placed = s.placed;
+      bucketed = s.bucketed;
+      whole = s.whole (ap is_some c.in-Some-Within.is-0);
+    }))

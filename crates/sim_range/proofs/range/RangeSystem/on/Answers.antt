@@ -5,39 +5,35 @@ use Rattle.sim_range.proofs.Common.{List, ap, ArePlaced, arith, Fact, has_land, 
 use Rattle.sim_range.proofs.Found.{found_held, part_held}
 use Rattle.sim_range.proofs.range.RangeSystem.on.Goals as goal
 
-pub make_ready-requires-clause-before : goal.make_ready-requires-clause-before
-make_ready-requires-clause-before c = let s = c.args.self.now in found_held s.kept.land s.kept.facts.items c.id_of-id.result c.find-before.result s.kept.held
-    c.find-before.ensures
-
-pub make_ready-requires-clause-after : goal.make_ready-requires-clause-after
-make_ready-requires-clause-after c =
+pub make_ready-requires : goal.make_ready-requires
+make_ready-requires c =
     let s = c.args.self.now in
-    part_held RangeKind s.kept.land s.kept.facts.items c.args.note.now c.id_of-id.result c.find-before.result c.part_after-after.result c.requires s.kept.held
-    c.id_of-id.ensures c.find-before.ensures c.part_after-after.ensures
-
-pub make_ready-requires-clause-from_ground : goal.make_ready-requires-clause-from_ground
-make_ready-requires-clause-from_ground c = found_placed c.args.self.now.kept.facts.items c.id_of-id.result c.find-before.result c.find-before.ensures
-    c.args.self.now.placed
-
-pub make_ready-requires-clause-on_ground : goal.make_ready-requires-clause-on_ground
-make_ready-requires-clause-on_ground c =
-    let s = c.args.self.now in
-    part_placed RangeKind s.kept.land s.kept.facts.items c.args.note.now c.id_of-id.result c.find-before.result c.part_after-after.result c.requires s.kept.held
-    c.id_of-id.ensures c.find-before.ensures c.part_after-after.ensures
-
-pub make_ready-requires-clause-found : goal.make_ready-requires-clause-found
-make_ready-requires-clause-found c =
-    found_for c.args.self.now.kept.facts.items c.id_of-id.result c.find-before.result c.part_after-after.result c.find-before.ensures
-    (put_named RangeKind c.args.self.now.kept.facts.items c.args.note.now c.id_of-id.result c.find-before.result c.part_after-after.result c.id_of-id.ensures
-    c.find-before.ensures c.part_after-after.ensures)
-
-pub make_ready-requires-clause-before_near : goal.make_ready-requires-clause-before_near
-make_ready-requires-clause-before_near c keeps = let s = c.args.self.now in found_is (SeesFrom s.sights.visions.near) s.kept.facts.items c.id_of-id.result
-    c.find-before.result (s.seen keeps).near c.find-before.ensures
-
-pub make_ready-requires-clause-before_far : goal.make_ready-requires-clause-before_far
-make_ready-requires-clause-before_far c keeps = let s = c.args.self.now in found_is (SeesWithin s.sights.visions.far) s.kept.facts.items c.id_of-id.result
-    c.find-before.result (s.seen keeps).far c.find-before.ensures
+    let facts = s.kept.facts.items in
+    let id = c.id_of-id.result in
+    let before = c.find-before.result in
+    let part = c.part_after-after.result in
+    let built = has_land s.kept.land _ c.requires in
+    record {
+      built = built;
+      placed = s.placed;
+      bucketed = s.bucketed;
+      whole = s.whole built;
+      kept = s.seen;
+      found = found_for facts id before part c.find-before.ensures (put_named RangeKind facts c.args.note.now id before part c.id_of-id.ensures
+          c.find-before.ensures c.part_after-after.ensures);
+      parts = λ l is. record {
+        from = found_held s.kept.land facts id before s.kept.held c.find-before.ensures l is;
+        to = part_held RangeKind s.kept.land facts c.args.note.now id before part c.requires s.kept.held c.id_of-id.ensures c.find-before.ensures
+            c.part_after-after.ensures l is;
+      };
+      near = λ keeps. found_is (SeesFrom s.sights.visions.near) facts id before (s.seen keeps).near c.find-before.ensures;
+      far = λ keeps. found_is (SeesWithin s.sights.visions.far) facts id before (s.seen keeps).far c.find-before.ensures;
+      ends = record {
+        from = found_placed facts id before c.find-before.ensures s.placed;
+        to = part_placed RangeKind s.kept.land facts c.args.note.now id before part c.requires s.kept.held c.id_of-id.ensures c.find-before.ensures
+            c.part_after-after.ensures;
+      };
+    }
 
 pub invariant_of-self : goal.invariant_of-self
 invariant_of-self c =
@@ -47,8 +43,8 @@ invariant_of-self c =
     let many = s.whole built in
     record {
       placed = subst ArePlaced (sym e.facts) s.placed;
-      bucketed = λ k d lt. e.buckets k d (omega (arith, lt, e.whole)) ∙ s.bucketed k d (omega (arith, lt, e.whole, many)) ∙ ap (held_in k) (sym e.facts);
-      whole = λ some. e.whole;
+      bucketed = λ k d lt. e.buckets.each k d (omega (arith, lt, e.buckets.whole)) ∙ s.bucketed k d (omega (arith, lt, e.buckets.whole, many)) ∙ ap (held_in k) (sym e.facts);
+      whole = λ some. e.buckets.whole;
       bare = λ none. still_built s.kept.land c.make_ready.new.kept.land built e.land none;
       seen = λ keeps. kept_along s.kept.land c.make_ready.new.kept.land s.kept.facts.items c.make_ready.new.kept.facts.items c.make_ready.new.sights e.land
           e.facts (e.kept (sym e.keeps ∙ keeps));
@@ -80,14 +76,14 @@ take_up-requires-clause-ready c keeps =
     c.part_after-after.result c.make_ready.new.sights e.land e.facts c.find-before.ensures
     (c.in_ok-make_ready.ensures.ready (sym e.keeps ∙ keeps))
 
-pub change-requires-clause-old : goal.change-requires-clause-old
-change-requires-clause-old c = found_placed c.args.self.now.kept.facts.items c.id_of-id.result c.find-before.result c.find-before.ensures c.args.self.now.placed
-
-pub change-requires-clause-new : goal.change-requires-clause-new
-change-requires-clause-new c =
+pub change-requires-clause-ends : goal.change-requires-clause-ends
+change-requires-clause-ends c =
     let s = c.args.self.now in
-    part_placed RangeKind s.kept.land s.kept.facts.items c.args.note.now c.id_of-id.result c.find-before.result c.part_after-after.result c.requires s.kept.held
-    c.id_of-id.ensures c.find-before.ensures c.part_after-after.ensures
+    record {
+      from = found_placed s.kept.facts.items c.id_of-id.result c.find-before.result c.find-before.ensures s.placed;
+      to = part_placed RangeKind s.kept.land s.kept.facts.items c.args.note.now c.id_of-id.result c.find-before.result c.part_after-after.result c.requires
+          s.kept.held c.id_of-id.ensures c.find-before.ensures c.part_after-after.ensures;
+    }
 
 pub change-requires-clause-named : goal.change-requires-clause-named
 change-requires-clause-named c = put_named RangeKind c.args.self.now.kept.facts.items c.args.note.now c.id_of-id.result c.find-before.result
@@ -109,7 +105,7 @@ invariant_of-self-2 c =
       placed = placed_after s.kept.land c.on.new.self.land _ c.on.new.self.facts.items c.requires land c.on.new.self.held;
       bucketed = noted_buckets RangeKind s.kept.land c.args.note.now id before part s.kept.facts.items c.on.new.self.facts.items s.buckets.items
           c.make_ready.new.buckets.items c.change.new.buckets.items c.requires s.kept.held (s.whole built) c.change.ensures.whole s.bucketed c.id_of-id.ensures
-          c.find-before.ensures c.part_after-after.ensures told e.buckets c.change.ensures.changed;
+          c.find-before.ensures c.part_after-after.ensures told e.buckets.each c.change.ensures.each;
       whole = λ some. c.change.ensures.whole;
       bare = λ none. still_built s.kept.land c.on.new.self.land built land none;
       seen = λ keeps. kept_along c.make_ready.new.kept.land c.on.new.self.land (with_only id part c.make_ready.new.kept.facts.items) c.on.new.self.facts.items

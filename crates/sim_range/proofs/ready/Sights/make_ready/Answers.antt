@@ -3,11 +3,22 @@ use Rattle.sim_range.proofs.{Keeping.further, Keeping.nearer, Lending.same_sight
 use Rattle.sim_range.proofs.Common.{List, length, refl, ap, Ascend, Fact, Holds, ids_at, ids_of, Sight, sight, subst, sym, ◌∙◌}
 use Rattle.sim_range.proofs.ready.Sights.make_ready.Goals as goal
 
-pub find-requires-clause-holds : goal.find-requires-clause-holds
-find-requires-clause-holds c = subst (Holds c.in-Some.land) (sym c.as_slice-facts.ensures.value) (c.args.kept.now.held c.in-Some.land c.in-Some.is)
+pub find-requires-clause-crowd : goal.find-requires-clause-crowd
+find-requires-clause-crowd c = rw c.as_slice-facts.ensures.value (record {
+  holds = c.args.kept.now.held c.in-Some.land c.in-Some.is;
+  placed = c.requires.placed;
+  bucketed = c.requires.bucketed;
+  whole = c.requires.whole;
+})
+
+pub find-requires-clause-parts : goal.find-requires-clause-parts
+find-requires-clause-parts c = c.requires.parts c.in-Some.land c.in-Some.is
 
 pub find_own-requires-clause-holds : goal.find_own-requires-clause-holds
 find_own-requires-clause-holds c = subst (Holds c.in-Some.land) (sym c.as_slice-facts.ensures.value) (c.args.kept.now.held c.in-Some.land c.in-Some.is)
+
+pub find_own-requires-clause-after : goal.find_own-requires-clause-after
+find_own-requires-clause-after c = (c.requires.parts c.in-Some.land c.in-Some.is).to
 
 pub find_own-requires-clause-seen : goal.find_own-requires-clause-seen
 find_own-requires-clause-seen c =
