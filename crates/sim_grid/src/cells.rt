@@ -3,8 +3,10 @@
 
 ghost use Rattle.std.specs.Prelude.{◌≡◌, ◌*◌, ◌<◌, ◌≤◌, true, ◌≢◌, ◌↔◌, replicate, pos, ◌+ℤ◌, ◌≤ℤ◌, IfOk, IsTrue, slice_get, slice_set, Some, None};
 ghost use Rattle.sim_base.specs.Steps.{cell_at as cell_of_numbers, IsOnGround, neighbour as neighbour_of, offsets};
-ghost use Rattle.sim_grid.specs.Grids.{is_open_at, IsGrid, IsOneOff, place_of};
+ghost use Rattle.sim_base.specs.declared.place.Cell.{Cell};
+ghost use Rattle.sim_grid.specs.{Grids.is_open_at, Grids.IsGrid, Grids.IsOneOff, Grids.place_of, Spots.IsSpot};
 
+use crate::spot::Spot;
 use sim_base::{Cell, OutOfMemory};
 use std::alloc::Global;
 use std::marker::Model;
@@ -139,6 +141,27 @@ impl Cells {
         ensures grid { IsGrid self.now }
     {
         usize::from(cell.z) * usize::from(self.width) + usize::from(cell.x)
+    }
+
+    /// Where the cell beside this one in one of the eight directions stands in the list, where the ground has it.
+    #[inline(always)]
+    pub fn place_beside(&self, from: Spot, which: u8) -> usize
+        requires which { which < 8 }
+        requires from { IsSpot self.now.size from }
+        requires there { neighbour_of self.now.size from.cell which ≢ None }
+        ensures { (to : Cell) → neighbour_of self.now.size from.cell which ≡ Some to → result ≡ place_of self.now.size to }
+    {
+        let width = usize::from(self.width);
+        match which {
+            0 => from.place + 1,
+            1 => from.place + width,
+            2 => from.place - 1,
+            3 => from.place - width,
+            5 => from.place + width - 1,
+            6 => from.place - width - 1,
+            7 => from.place - width + 1,
+            _ => from.place + width + 1,
+        }
     }
 }
 

@@ -6,6 +6,7 @@ ghost use Rattle.sim_search.specs.declared.entry.Entry.{Entry};
 
 use crate::entry::Entry;
 use sim_base::Cell;
+use sim_grid::Spot;
 
 /// The costs of the cells of a ground, by z, then x: those that have the stamp of this search. So all of them can be
 /// forgotten at once.
@@ -23,7 +24,7 @@ pub struct Costs {
 
 impl Costs {
     ghost use Rattle.std.specs.Prelude.{◌≡◌, ◌+◌, ◌-◌, ◌*◌, ◌^◌, ◌<◌, ◌↔◌, IsTrue, slice_index_or, Some, None, vec_len};
-    ghost use Rattle.sim_search.specs.Common.{Cell, IsOnGround};
+    ghost use Rattle.{sim_grid.specs.Spots.IsSpot, sim_search.specs.Common.Cell, sim_search.specs.Common.IsOnGround};
     ghost use Rattle.sim_search.specs.Tables.{cost_in, IsForgotten, IsSet, known, place_in, read_entry, size_of};
 
     /// Whether the ground has this cell.
@@ -57,6 +58,15 @@ impl Costs {
         self.read(self.items[self.place(cell)])
     }
 
+    /// The same where its place is known.
+    #[inline(always)]
+    pub(crate) fn at_spot(&self, spot: Spot) -> Option<u32>
+        requires { IsSpot (size_of self.now) spot }
+        ensures { result ≡ cost_in self.now spot.cell }
+    {
+        self.read(self.items[spot.place])
+    }
+
     /// The cost of the cell at this place of the list.
     pub(crate) fn at_place(&self, place: usize) -> Option<u32>
         requires { place < vec_len self.now.items }
@@ -77,12 +87,11 @@ impl Costs {
     }
 
     /// Gives a cell this cost.
-    pub(crate) fn set(&mut self, cell: Cell, cost: u32)
-        requires { IsOnGround (size_of self.old) cell }
-        ensures { IsSet self.old self.new cell cost }
+    pub(crate) fn set(&mut self, spot: Spot, cost: u32)
+        requires { IsSpot (size_of self.old) spot }
+        ensures { IsSet self.old self.new spot.cell cost }
     {
-        let place = self.place(cell);
-        self.items[place] = Entry {
+        self.items[spot.place] = Entry {
             stamp: self.stamp,
             cost,
         };

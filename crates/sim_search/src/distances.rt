@@ -6,6 +6,7 @@ ghost use Rattle.std.specs.Prelude.{◌≡◌, ◌*◌, ◌≤◌, vec_len};
 use crate::costs::Costs;
 use crate::row::number;
 use sim_base::{Cell, OutOfMemory};
+use sim_grid::Spot;
 use std::alloc::Global;
 
 /// A goal, and the numbers of the cells of a ground, by z, then x: 0 where no walk leads.
@@ -22,11 +23,13 @@ pub struct Distances {
 
 impl Distances {
     ghost use Rattle.std.specs.Prelude.{◌≡◌, IfOk};
-    ghost use Rattle.sim_search.specs.{Common.Cell, Distances.number_in, Rows.number_of, Tables.cost_in};
+    ghost use Rattle.{sim_grid.specs.Spots.IsSpot, sim_search.specs.Common.Cell, sim_search.specs.Rows.number_of};
+    ghost use Rattle.sim_search.specs.{Distances.number_in, Distances.size_about, Tables.cost_in, Tables.size_of};
 
     /// Those that the costs of walks from the goal tell.
     pub fn of(alloc: Global, costs: &Costs, goal: Cell) -> Result<Distances, OutOfMemory>
         ensures goal { IfOk result (λ d. d.goal ≡ goal) }
+        ensures size { IfOk result (λ d. size_about d ≡ size_of costs.now) }
         ensures numbers { IfOk result (λ d. (c : Cell) → number_in d c ≡ number_of (cost_in costs.now c)) }
     {
         let mut items = Vec::with_capacity(alloc, costs.items.len())?;
@@ -51,5 +54,14 @@ impl Distances {
         } else {
             0
         }
+    }
+
+    /// The number of a cell of the ground whose place is known.
+    #[inline(always)]
+    pub fn at_spot(&self, spot: Spot) -> u16
+        requires { IsSpot (size_about self.now) spot }
+        ensures { result ≡ number_in self.now spot.cell }
+    {
+        self.items[spot.place]
     }
 }

@@ -8,9 +8,9 @@ ghost use Rattle.{sim_grid.specs.Grids.is_open_at, sim_search.specs.Estimates.Is
 use crate::aim::Nowhere;
 use crate::queue::{begun, emptied, is_empty, lower, swap_bucket, take, waiting};
 use crate::steps::moves_by_trial;
-use crate::{Costs, Guide, Search, step, step_cost};
+use crate::{Costs, Guide, Search, step_beside, step_cost};
 use sim_base::{Cell, Items, OutOfMemory};
-use sim_grid::Grid;
+use sim_grid::{Grid, Spot};
 use std::alloc::Global;
 
 // The steps that are allowed from a cell. Whether the start is open is looked at once for a bucket.
@@ -44,8 +44,10 @@ fn expand<A: Guide>(
     ensures { OnOk result (Expands (A.estimate_of aim) (field_of_grid grid.now) search.old search.new from cost) }
 {
     let moves = moves_where(grid, start_open, search.start, from);
+    let place = grid.place(from);
+    let here = Spot { cell: from, place };
     for which in 0..8u8 {
-        if let Some(to) = step(grid, search.start, from, moves, which) {
+        if let Some(to) = step_beside(grid, search.start, here, moves, which) {
             lower(search, aim, to, cost + step_cost(which))?;
         }
     }

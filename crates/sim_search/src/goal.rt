@@ -2,7 +2,7 @@
 
 ghost use Rattle.std.specs.Prelude.{◌≡◌, true, IfOk};
 ghost use Rattle.sim_grid.specs.Grids.{is_open_at};
-ghost use Rattle.sim_search.specs.{Common.field_of_grid, Common.IsOnGround, Distances.AreDistances, Distances.number_in};
+ghost use Rattle.sim_search.specs.{Common.field_of_grid, Common.IsOnGround, Distances.AreDistances, Distances.number_in, Distances.size_about};
 
 use crate::distances::Distances;
 use crate::drain::search_all;
@@ -21,6 +21,7 @@ pub fn distances_to(
     requires on { IsOnGround grid.now.size goal }
     requires is_open { is_open_at grid.now goal ≡ true }
     ensures goal { IfOk result (λ d. d.goal ≡ goal) }
+    ensures size { IfOk result (λ d. size_about d ≡ grid.now.size) }
     ensures distances { IfOk result (λ d. AreDistances (field_of_grid grid.now) goal (number_in d)) }
 {
     let search = search_all(alloc, grid, rooms.take(), goal)?;

@@ -47,6 +47,6 @@ pub use landmarks::Landmarks;
 pub use laws::{labels_tell, no_label_is_closed, search_goes_on, taken_in_order, taken_is_least};
 pub use mend::{mend_closed, mend_opened};
 pub use search::Search;
-pub use steps::{is_free, moves_from, step, step_cost};
+pub use steps::{is_free, moves_from, step, step_beside, step_cost};
 pub use survey::landmarks_on;
 pub use toward::Toward;

@@ -1,12 +1,14 @@
 //! The cells that wait, in a ring of buckets, each of which holds those of one key: the sum of cost and estimate.
 
 ghost use Rattle.std.specs.Prelude.{true, false, ◌≡◌, ℕ, ◌+◌, ◌-◌, ◌*◌, ◌%◌, ◌^◌, ◌<◌, ◌≤◌, ◌↔◌, [], replicate, IfOk, OnOk, IsTrue, slice_index_or, Some, None, vec_len};
-ghost use Rattle.sim_search.specs.{Common.IsOnGround, Tables.cost_in, Tables.is_lower_than, Tables.size_of};
+ghost use Rattle.{sim_grid.specs.Spots.IsSpot, sim_search.specs.Common.IsOnGround};
+ghost use Rattle.sim_search.specs.Tables.{cost_in, is_lower_than, place_in, size_of};
 ghost use Rattle.sim_search.specs.Queues.{Begins, bucket_in, Empties, IsBlank, IsLowered, Lowers, taken_in, Takes};
 
 use crate::entry::Entry;
 use crate::{Costs, Guide, Search};
 use sim_base::{Cell, Items, OutOfMemory};
+use sim_grid::Spot;
 use std::alloc::Global;
 use std::mem;
 
@@ -149,24 +151,35 @@ pub fn begun<A: Guide>(
     ensures { IfOk result (λ s. Begins (A.estimate_of aim) (record { width = width; depth = depth }) start s) }
 {
     let mut search = blank(alloc, rooms, width, depth, start)?;
-    wait(&mut search, aim, start, 0)?;
+    let place = search.costs.place(start);
+    wait(&mut search, aim, start, place, 0)?;
     Ok(search)
 }
 
 // Whether the total is lower than the cost of a cell.
-fn is_lower(search: &Search, cell: Cell, total: u32) -> bool
-    requires { IsOnGround (size_of search.now.costs) cell }
-    ensures { result ≡ is_lower_than total (cost_in search.now.costs cell) }
+#[inline(always)]
+fn is_lower(search: &Search, at: Spot, total: u32) -> bool
+    requires { IsSpot (size_of search.now.costs) at }
+    ensures { result ≡ is_lower_than total (cost_in search.now.costs at.cell) }
 {
-    match search.costs.on(cell) {
+    match search.costs.at_spot(at) {
         None => true,
         Some(cost) => total < cost,
     }
 }
 
-// Gives a cell the total as its cost, which is lower than before, and lets it wait there.
-fn wait<A: Guide>(search: &mut Search, aim: A, to: Cell, total: u32) -> Result<(), OutOfMemory>
+// Gives a cell the total as its cost, which is lower than before, and lets it wait there. Few steps come so far, so it is no part of
+// the loop.
+#[inline(never)]
+fn wait<A: Guide>(
+    search: &mut Search,
+    aim: A,
+    to: Cell,
+    place: usize,
+    total: u32,
+) -> Result<(), OutOfMemory>
     requires to_on { IsOnGround (size_of search.old.costs) to }
+    requires place { place ≡ place_in search.old.costs to }
     requires small { total < 2 ^ 31 + 2 ^ 8 }
     requires lower { is_lower_than total (cost_in search.old.costs to) ≡ true }
     ensures { OnOk result (IsLowered (A.estimate_of aim) search.old search.new to total) }
@@ -174,18 +187,19 @@ fn wait<A: Guide>(search: &mut Search, aim: A, to: Cell, total: u32) -> Result<(
     let key = total + aim.estimate(to);
     let waiting = &mut search.buckets[bucket(key)];
     waiting.push(to)?;
-    search.costs.set(to, total);
+    search.costs.set(Spot { cell: to, place }, total);
     Ok(())
 }
 
 /// Gives a cell a cost of at most the total, and if its cost falls so, lets it wait there.
-pub fn lower<A: Guide>(search: &mut Search, aim: A, to: Cell, total: u32) -> Result<(), OutOfMemory>
-    requires to_on { IsOnGround (size_of search.old.costs) to }
+#[inline(always)]
+pub fn lower<A: Guide>(search: &mut Search, aim: A, to: Spot, total: u32) -> Result<(), OutOfMemory>
+    requires to_on { IsSpot (size_of search.old.costs) to }
     requires small { total < 2 ^ 31 + 2 ^ 8 }
-    ensures { OnOk result (Lowers (A.estimate_of aim) search.old search.new to total) }
+    ensures { OnOk result (Lowers (A.estimate_of aim) search.old search.new to.cell total) }
 {
     if is_lower(search, to, total) {
-        wait(search, aim, to, total)?;
+        wait(search, aim, to.cell, to.place, total)?;
     }
     Ok(())
 }

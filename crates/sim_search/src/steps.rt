@@ -1,11 +1,11 @@
 //! The steps that are allowed over a grid.
 
-ghost use Rattle.std.specs.{Option.is_some, Prelude.◌≡◌, Prelude.◌<◌, Prelude.IfSome};
+ghost use Rattle.std.specs.{Option.is_some, Prelude.◌≡◌, Prelude.◌<◌, Prelude.IfSome, Prelude.Some, Prelude.None};
 ghost use Rattle.sim_search.specs.Common.{beside_open, field_of_grid, is_free as is_free_in, IsOnGround, step_cost as cost_of_step};
-ghost use Rattle.sim_search.specs.Moves.{AreMoves, step_to};
+ghost use Rattle.{sim_grid.specs.Spots.IsSpot, sim_grid.specs.declared.spot.Spot.Spot, sim_search.specs.Moves.AreMoves, sim_search.specs.Moves.step_to};
 
 use sim_base::Cell;
-use sim_grid::Grid;
+use sim_grid::{Grid, Spot};
 
 /// What a step in this direction costs: 10 where it is straight, 14 where it is diagonal.
 pub fn step_cost(which: u8) -> u32
@@ -68,6 +68,23 @@ pub fn step(grid: &Grid, start: Cell, from: Cell, moves: u8, which: u8) -> Optio
 {
     if moves >> which & 1 == 1 {
         Some(grid.beside(from, which))
+    } else {
+        None
+    }
+}
+
+/// The same by places.
+#[inline(always)]
+pub fn step_beside(grid: &Grid, start: Cell, from: Spot, moves: u8, which: u8) -> Option<Spot>
+    requires which_in { which < 8 }
+    requires from { IsSpot grid.now.size from }
+    requires moves { AreMoves (field_of_grid grid.now) start from.cell moves }
+    ensures none { result ≡ None → step_to (field_of_grid grid.now) start from.cell which ≡ None }
+    ensures some { (to : Spot) → result ≡ Some to → step_to (field_of_grid grid.now) start from.cell which ≡ Some to.cell }
+    ensures spot { IfSome result (λ to. IsSpot grid.now.size to) }
+{
+    if moves >> which & 1 == 1 {
+        Some(grid.spot_beside(from, which))
     } else {
         None
     }

@@ -11,16 +11,16 @@ pub loop-which-preserved : goal.loop-which-preserved
 loop-which-preserved g c =
     let field = field_of_grid c.args.grid.now in
     let P : Search → Type 0 = λ s. Expanding (g.A.Guide.estimate_of c.args.aim) field c.args.search.now s c.args.from c.args.cost (c.loop-which.which + 1) in
-    elim c.match-step.branch [
+    elim c.match-step_beside.branch [
       | in-Some+in_ok-lower w ↦
           subst P (sym w.search-is)
-          (expanding_more (g.A.Guide.estimate_of c.args.aim) field c.args.search.now c.loop-which.search w.lower.new.search c.args.from w.in-Some.to c.args.cost
+          (expanding_more (g.A.Guide.estimate_of c.args.aim) field c.args.search.now c.loop-which.search w.lower.new.search c.args.from w.in-Some.to.cell c.args.cost
           c.loop-which.which c.loop-which.invariant
-          (sym c.step.ensures.step ∙ w.in-Some.is)
+          (c.step_beside.ensures.some w.in-Some.to w.in-Some.is)
           (rw w.step_cost.ensures at w.in_ok-lower.ensures))
       | in_default w ↦ subst P (sym w.search-is)
           (expanding_none (g.A.Guide.estimate_of c.args.aim) field c.args.search.now c.loop-which.search c.args.from c.args.cost
-          c.loop-which.which c.loop-which.invariant (sym c.step.ensures.step ∙ w.in_default.is))
+          c.loop-which.which c.loop-which.invariant (c.step_beside.ensures.none w.in_default.is))
     ]
 
 pub returns : goal.returns
@@ -30,3 +30,6 @@ returns g c =
 
 pub returns-in_err-lower : goal.returns-in_err-lower
 returns-in_err-lower g c = IfOk-from_err _ _ c.from_residual.ensures.0
+
+pub step_beside-requires-clause-from : goal.step_beside-requires-clause-from
+step_beside-requires-clause-from g c = record { on = c.requires.from_on; place_is = c.place-place.ensures }

@@ -7,8 +7,8 @@ pub returns : goal.returns
 returns c =
     let old = c.args.self.now in
     let full : length (known old) ≡ old.width * old.depth = omega (arith, length-map old.items.items (read_entry old.stamp), old.full, old.items.ok.0) in
-    let place = c.place-place.result in
-    let p = c.place-place.ensures.place in
+    let place = c.args.spot.place in
+    let p = c.requires.place_is in
     let made : Entry = record { stamp = old.stamp; cost = c.args.cost } in
     let reads : read_entry old.stamp made ≡ Some c.args.cost = cond-true (eqb old.stamp old.stamp) (Some c.args.cost) None (eq-eqb old.stamp old.stamp refl) in
     let new_known : map (read_entry old.stamp) (set old.items.items place made) ≡ set (known old) place (Some c.args.cost) =
@@ -19,6 +19,6 @@ returns c =
     record {
       size = refl;
       stamp = refl;
-      here = at c.args.cell ∙ (rw p (entry_at-set_same None (size_of old) (known old) c.args.cell (Some c.args.cost) c.requires full));
-      elsewhere = λ e ne. at e ∙ (rw p (entry_at-set_other None (size_of old) (known old) c.args.cell e (Some c.args.cost) c.requires ne));
+      here = at c.args.spot.cell ∙ (rw p (entry_at-set_same None (size_of old) (known old) c.args.spot.cell (Some c.args.cost) c.requires.on full));
+      elsewhere = λ e ne. at e ∙ (rw p (entry_at-set_other None (size_of old) (known old) c.args.spot.cell e (Some c.args.cost) c.requires.on ne));
     }

@@ -1,0 +1,9 @@
+-- Cells that know their places.
+use Rattle.std.specs.Prelude.{◌≡◌}
+use Rattle.sim_base.specs.{Places.Size, Steps.IsOnGround}
+use Rattle.sim_grid.specs.{Grids.place_of, declared.spot.Spot.Spot}
+
+-- the cell is one of the ground's, and stands at the place
+pub record IsSpot (size : Size) (spot : Spot) : Type 0 where
+  pub on : IsOnGround size spot.cell
+  pub place_is : spot.place ≡ place_of size spot.cell
