@@ -36,3 +36,6 @@ loop-preserved c =
     let further = at-further field start (slope_of slope) c.requires.start (slope-floor field start slope c.requires.slope) c.args.goal c.loop.trail.items dead
     at from other c.loop.invariant (subst (λ (o : Option Cell). IsFirstTight field start (slope_of slope) dead at 8 o) c.in-Some.is c.first_live.ensures) in
     subst (λ (t : List Cell). IsAt field start (slope_of slope) c.args.goal t dead from) (sym c.in_ok-push.ensures.items) further
+
+pub first_live-requires-clause-size : goal.first_live-requires-clause-size
+first_live-requires-clause-size c = c.requires.slope.size_is

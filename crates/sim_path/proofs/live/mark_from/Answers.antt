@@ -28,3 +28,7 @@ loop-which-preserved c =
           rw (w.live-is, w.list-is) (spread-past field start number old live first list c.loop-which.which c.args.cell c.loop-which.invariant
           (c.falling_step.ensures.none w.in_default.is))
     ]
+
+pub falling_step-requires-clause-at : goal.falling_step-requires-clause-at
+falling_step-requires-clause-at c =
+    record { spot = record { on = c.requires.cell_on; place_is = c.place-place.ensures }; moves = c.moves_from.ensures; cost_is = c.estimate.ensures.is }
