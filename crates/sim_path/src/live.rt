@@ -127,7 +127,8 @@ fn live_step(
     requires which_in { which < 8 }
     requires at { IsStand (field_of_grid grid.now) start (slope_of slope.now) at }
     requires size { size_about slope.now.distances.now ≡ grid.now.size }
-    ensures none { result ≡ None → (p : Cell) → IsTightStep (field_of_grid grid.now) start (slope_of slope.now) at.spot.cell p which → is_dead live.now p ≡ true }
+    ensures none { result ≡ None → (p : Cell) → IsTightStep (field_of_grid grid.now) start (slope_of slope.now) at.spot.cell p which
+        → is_dead live.now p ≡ true }
     ensures some { (p : Cell) → result ≡ Some p → IsTightStep (field_of_grid grid.now) start (slope_of slope.now) at.spot.cell p which }
 {
     let from = step_beside(grid, start, at.spot, at.moves, which)?;

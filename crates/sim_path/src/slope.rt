@@ -1,7 +1,8 @@
 //! What walks from a start cost at least, by the distances to a goal that a way from there has. As these are exact, it is just what a
 //! walk costs to each cell of a shortest way.
 
-ghost use Rattle.{sim_base.specs.Steps.IsOnGround, sim_base.specs.Steps.octile as octile_of, sim_base.specs.declared.place.Cell.Cell, sim_grid.specs.Grids.field_of_grid, sim_grid.specs.Spots.IsSpot};
+ghost use Rattle.sim_base.specs.{Steps.IsOnGround, Steps.octile as octile_of, declared.place.Cell.Cell};
+ghost use Rattle.sim_grid.specs.{Grids.field_of_grid, Spots.IsSpot};
 ghost use Rattle.std.specs.Prelude.{◌≡◌, ◌+◌, ◌*◌, ◌<◌, ◌≤◌, ◌≢◌, ◌↔◌, true, false, IsTrue, Some, None};
 ghost use Rattle.sim_search.specs.Distances.{number_in, size_about};
 ghost use Rattle.sim_path.specs.{Floors.slope_of, MarkTables.marked_in, Stands.IsStand};
@@ -63,8 +64,9 @@ fn falls_short(slope: &Slope<'_>, from: Spot, step: u32, cost: u32) -> bool
     requires { IsSpot (size_about slope.now.distances.now) from }
     ensures { result ≡ true → slope_of slope.now from.cell + step ≢ cost }
 {
-    let number = u64::from(slope.distances.at_spot(from));
-    2 * number + u64::from(cost) < u64::from(slope.whole) + u64::from(step)
+    let Slope { distances, whole } = *slope;
+    let number = u64::from(distances.at_spot(from));
+    2 * number + u64::from(cost) < u64::from(whole) + u64::from(step)
 }
 
 // Whether the way leaves such a cost for a cell that isn't dead, and that is enough for the octile distance. Few cells come so far, so
