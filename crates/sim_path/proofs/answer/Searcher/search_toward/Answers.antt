@@ -1,5 +1,5 @@
 -- By distances the way is read off.
-use Rattle.sim_path.proofs.Common.{◌*◌, ap, ap₂, Cell, cell_of, field_of_grid, IfOk-from_err, subst, sym, ◌∙◌}
+use Rattle.sim_path.proofs.Common.{◌*◌, ap, ap₂, Cell, cell_of, field_of_grid, subst, sym, ◌∙◌}
 use Rattle.sim_path.proofs.answer.Searcher.search_toward.Goals as goal
 use Rattle.sim_search.specs.{Distances.AreDistances, Distances.number_in, Distances.size_about, declared.distances.Distances.Distances}
 
