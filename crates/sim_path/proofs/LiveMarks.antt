@@ -1,6 +1,6 @@
 -- What marks and lists tell while the cells of the shortest ways are marked.
 use Rattle.sim_path.proofs.{AwaySteps.one-more, LiveWays.alone}
-use Rattle.sim_path.proofs.Common.{◌≡◌, ℕ, ◌+◌, ◌<◌, true, ◌≢◌, ◌⊎◌, List, [], ◌∷◌, ◌++◌, Contains, refl, arith, inl, inr, Cell, Field, IsOnGround, Size}
+use Rattle.sim_path.proofs.Common.{◌≡◌, ℕ, ◌+◌, true, ◌≢◌, ◌⊎◌, List, [], ◌∷◌, ◌++◌, Contains, refl, arith, inl, inr, Cell, Field, IsOnGround}
 use Rattle.sim_path.proofs.Common.{Contains-append_left, Contains-push, Contains-push_cases, marked_in, same_or_not, size_of_marks, subst, sym, true≢false, ◌∙◌, ⊎_elim}
 use Rattle.sim_path.specs.Live.{AreLive, AreLiveBut, FallsBefore, IsFall, IsSpread, IsSpreadFrom}
 use Rattle.sim_path.specs.{MarkTables.IsMarkedToo, MarkTables.IsNoneMarked, declared.marks.Marks.Marks}

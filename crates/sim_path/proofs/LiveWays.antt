@@ -1,9 +1,9 @@
 -- No shortest way leads to a cell that is not live.
 use Rattle.sim_path.proofs.{BestOf.best_of-more, BestOf.best_of-none, TightTrails.begin, TightTrails.IsAt, TightTrails.IsFree, TightTrails.no_more}
 use Rattle.sim_path.proofs.TightTrails.{tight-end, walk-far}
-use Rattle.sim_path.proofs.Common.{◌≡◌, ℕ, ◌+◌, ◌-◌, ◌*◌, ◌<◌, ◌≤◌, Bool, true, false, not, ◌≢◌, List, [], ◌∷◌, Some, None, Contains, refl, ap, arith}
-use Rattle.sim_path.proofs.Common.{AreDead, AreEnds, Cell, Contains-push, Contains-push_cases, Field, floor_cost, go, IsBest, IsCost, IsEnd, IsFloor, IsOnGround}
-use Rattle.sim_path.proofs.Common.{IsReached, IsStep, IsTight, least_step, octile, octile-none, octile-self, Reached, stay, step_cost, subst, sym, true≢false, Walk, ◌∙◌, ⊎_elim}
+use Rattle.sim_path.proofs.Common.{◌≡◌, ℕ, ◌+◌, ◌-◌, ◌*◌, ◌≤◌, Bool, true, not, [], ◌∷◌, None, Contains, refl, ap, arith}
+use Rattle.sim_path.proofs.Common.{AreDead, AreEnds, Cell, Contains-push, Contains-push_cases, Field, floor_cost, go, IsEnd, IsFloor, IsOnGround}
+use Rattle.sim_path.proofs.Common.{IsReached, IsStep, IsTight, least_step, octile, octile-none, octile-self, stay, step_cost, subst, sym, true≢false, Walk, ◌∙◌, ⊎_elim}
 use Rattle.sim_path.specs.{Floors.IsSlope, Floors.slope_of, Live.AreLive, SlopeLaws.slope-floor, declared.slope.Slope.Slope}
 use Rattle.sim_search.proofs.Moves.{direction-of}
 use Rattle.sim_search.specs.Distances.{number_in}

@@ -1,8 +1,8 @@
 -- What is kept of a ground, and the ground that it is kept of.
 use Rattle.{sim_grid.specs.Grids.OpenCells, sim_grid.specs.Packed.is_set_at, sim_path.specs.declared.kept.KeptCells.KeptCells}
-use Rattle.std.{specs.List.range_with_len, specs.Prelude.ℕ, specs.Prelude.◌*◌, specs.Prelude.Bool, specs.Prelude.List, specs.Prelude.map}
+use Rattle.std.{specs.List.range_with_len, specs.Prelude.◌≡◌, specs.Prelude.ℕ, specs.Prelude.◌*◌, specs.Prelude.Bool, specs.Prelude.List, specs.Prelude.map}
 use Rattle.sim_base.specs.Steps.{Field}
-use Rattle.sim_search.specs.{Distances.AreDistances, Distances.number_in, declared.distances.Distances.Distances}
+use Rattle.sim_search.specs.{Distances.AreDistances, Distances.number_in, Distances.size_about, declared.distances.Distances.Distances}
 
 -- the first n cells that words tell of
 abbrev pub cells_of : ℕ → List ℕ → List Bool
@@ -15,6 +15,7 @@ ground_in kept = record {
   cells = cells_of (kept.width * kept.depth) kept.words.items;
 }
 
--- distances on a ground are those to their goal
-abbrev pub AreOn : Field → Distances → Type 0
-AreOn field d = AreDistances field d.goal (number_in d)
+-- distances on a ground of this size are those to their goal
+pub record AreOn (field : Field) (d : Distances) : Type 0 where
+  pub size_is : size_about d ≡ field.size
+  pub distances : AreDistances field d.goal (number_in d)

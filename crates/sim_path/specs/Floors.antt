@@ -1,7 +1,7 @@
 -- What walks from a start cost at least, by what a search knows.
 use Rattle.{sim_path.specs.WalkFloors.IsFloor, sim_path.specs.declared.front.Front.Front, sim_path.specs.declared.slope.Slope.Slope, sim_search.specs.Estimates.estimate_to, sim_search.specs.Tables.cost_in, sim_search.specs.Taking.HasCost}
 use Rattle.std.specs.Prelude.{◌≡◌, ℕ, ◌+◌, ◌-◌, ◌*◌, ◌<◌, ◌≤◌, true, min, max, Some, None, Option}
-use Rattle.sim_search.specs.Distances.{AreDistances, number_in}
+use Rattle.sim_search.specs.Distances.{AreDistances, number_in, size_about}
 use Rattle.sim_base.specs.{Steps.Field, Steps.IsStep, Steps.octile, declared.place.Cell.Cell}
 
 -- the cost that is known, or the bound where that is less
@@ -38,9 +38,10 @@ slope_of s c = s.whole - 2 * number_in s.distances.now c
 abbrev pub slope_from : Slope → Cell → Cell → ℕ
 slope_from s start = slope_of s
 
--- the distances are those to some goal, and from an open start it takes as much as is told
+-- the distances are those to some goal on a ground of this size, and from an open start it takes as much as is told
 pub record IsSlope (field : Field) (start : Cell) (s : Slope) : Type 0 where
   pub goal : Cell
+  pub size_is : size_about s.distances.now ≡ field.size
   pub is_open : field.is_open start ≡ true
   pub distances : AreDistances field goal (number_in s.distances.now)
   pub whole : s.whole ≡ 2 * number_in s.distances.now start

@@ -8,6 +8,10 @@ pub record IsFall (field : Field) (start : Cell) (number : Cell → ℕ) (a b : 
   pub leads : step_to field start a which ≡ Some b
   pub sum : 2 * number b + step_cost which ≡ 2 * number a
 
+-- twice the number of a cell
+abbrev pub twice : (Cell → ℕ) → Cell → ℕ
+twice number c = 2 * number c
+
 -- such steps in the directions before n lead to marked cells
 abbrev pub FallsBefore : Field → Cell → (Cell → ℕ) → (Cell → Bool) → ℕ → Cell → Type 0
 FallsBefore field start number marked n a = (which : ℕ) (b : Cell) → which < n → IsFall field start number a b which → marked b ≡ true

@@ -1,5 +1,5 @@
 -- No walk costs less than what distances to a goal leave for it, since they fall along a step by at most what it costs.
-use Rattle.sim_base.specs.{Steps.Field, Steps.IsStep, declared.place.Cell.Cell}
+use Rattle.sim_base.specs.{Steps.Field, declared.place.Cell.Cell}
 use Rattle.sim_path.specs.{Floors.IsSlope, Floors.slope_of, WalkFloors.IsFloor, declared.slope.Slope.Slope}
 use Rattle.sim_search.specs.Distances.{number_in}
 use Rattle.std.proofs.Common.{◌≡◌, ℕ, ◌+◌, ◌-◌, ◌*◌, ◌≤◌, arith}

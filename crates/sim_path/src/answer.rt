@@ -189,7 +189,7 @@ impl Searcher {
     ghost use Rattle.sim_base.specs.{Places.cell_of as cell_at, Places.is_inside, Places.same_cell, WayOf.way_of, Ways.IsWay, declared.place.Cell.Cell};
     ghost use Rattle.sim_base.specs.Steps.{IsOnGround, octile};
     ghost use Rattle.{sim_grid.specs.Grids.is_open_at, sim_search.specs.Rows.AreLandmarks, sim_search.specs.Rows.row_in};
-    ghost use Rattle.sim_search.specs.Distances.{AreDistances, number_in};
+    ghost use Rattle.sim_search.specs.Distances.{AreDistances, number_in, size_about};
     ghost use Rattle.sim_path.specs.{Answers.way_in, Atlases.ground_in, Floors.IsFront, Remembering.AreFirst, WayEnds.AreEnds, WayEnds.IsTrailToEnd};
 
     /// A searcher that has no rooms yet.
@@ -493,6 +493,7 @@ impl Searcher {
         requires start { IsTrue (is_inside grid.now.size start.now) }
         requires goal { IsTrue (is_inside grid.now.size goal.now) }
         requires is_open { is_open_at grid.now (cell_at start.now) ≡ true }
+        requires size { size_about distances.now ≡ grid.now.size }
         requires distances { AreDistances (field_of_grid grid.now) (cell_at goal.now) (number_in distances.now) }
         requires ends { AreEnds (field_of_grid grid.now) (cell_at start.now) (cell_at goal.now) 0 ends.now }
         ensures { OnOk result (IsTrailToEnd (field_of_grid grid.now) (cell_at start.now) (cell_at goal.now) trail.new.items) }
@@ -520,6 +521,7 @@ impl Searcher {
         requires start { IsTrue (is_inside grid.now.size start.now) }
         requires goal { IsTrue (is_inside grid.now.size goal.now) }
         requires is_open { is_open_at grid.now (cell_at start.now) ≡ true }
+        requires size { size_about distances.now ≡ grid.now.size }
         requires distances { AreDistances (field_of_grid grid.now) (cell_at goal.now) (number_in distances.now) }
         ensures { IfOk result (λ found. found ≡ true → IsTrailToEnd (field_of_grid grid.now) (cell_at start.now) (cell_at goal.now) trail.new.items) }
     {

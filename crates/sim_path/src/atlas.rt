@@ -31,7 +31,7 @@ impl Atlas {
     ghost use Rattle.std.specs.Prelude.{◌≡◌, true, IfOk, IfSome};
     ghost use Rattle.{sim_base.specs.Steps.IsOnGround, sim_grid.specs.Grids.field_of_grid, sim_grid.specs.Grids.is_open_at};
     ghost use Rattle.sim_path.specs.Atlases.{AreOn, ground_in};
-    ghost use Rattle.sim_search.specs.Distances.{AreDistances, number_in};
+    ghost use Rattle.sim_search.specs.Distances.{AreDistances, number_in, size_about};
 
     /// That of a grid, with no landmarks and no distances yet.
     pub fn of(alloc: Global, grid: &Grid) -> Result<Atlas, OutOfMemory>
@@ -67,7 +67,8 @@ impl Atlas {
 
     /// The distances to a goal, if they are kept.
     pub fn distances_to(&self, goal: Cell) -> Option<&Distances>
-        ensures { IfSome result (λ d. AreDistances (field_of_grid (ground_in self.now.cells)) goal (number_in d.now)) }
+        ensures size { IfSome result (λ d. size_about d.now ≡ (ground_in self.now.cells).size) }
+        ensures distances { IfSome result (λ d. AreDistances (field_of_grid (ground_in self.now.cells)) goal (number_in d.now)) }
     {
         for distances in self.goals.as_slice() {
             if distances.goal == goal {

@@ -9,7 +9,7 @@
 //! - `floor`, `tight`: ways that cost no more than it is known that they must, found back from their end.
 //! - `front`, `away`, `milestone`: what a search knows of that to a far goal, so that the way is found before all cells are searched that
 //!   cost as much.
-//! - `slope`, `live`: what distances to a goal tell of it, so that the way is found with no search, and a winding one with no dead ends.
+//! - `slope`, `live`, `stand`: what distances to a goal tell of it, so that the way is found with no search, and a winding one with no dead ends.
 //! - `atlas`, `kept`: landmarks of a ground, distances to some goals on it, and its open cells, which are kept from one search to the
 //!   next.
 //! - `dear`: the goals to which searches were dear.
@@ -34,6 +34,7 @@ mod nearest;
 mod reached;
 mod remembered;
 mod slope;
+mod stand;
 mod straight;
 mod tight;
 mod trail;

@@ -4,17 +4,17 @@
 
 ghost use Rattle.{sim_base.specs.Steps.IsOnGround, sim_base.specs.declared.place.Cell.Cell, sim_grid.specs.Grids.field_of_grid};
 ghost use Rattle.std.specs.Prelude.{◌≡◌, ◌*◌, ◌<◌, true, false, IfOk, OnOk, Some, None, Contains};
-ghost use Rattle.{sim_search.specs.Distances.number_in, sim_search.specs.Moves.AreMoves};
-ghost use Rattle.sim_path.specs.{Floors.IsSlope, Floors.slope_of, MarkTables.IsNoneMarked, MarkTables.marked_in, MarkTables.size_of_marks};
-ghost use Rattle.sim_path.specs.Live.{AreLive, AreLiveBut, is_dead, IsFall, IsSpread, IsSpreadFrom};
+ghost use Rattle.sim_search.specs.Distances.{number_in, size_about};
+ghost use Rattle.sim_path.specs.{Floors.IsSlope, Floors.slope_of, MarkTables.IsNoneMarked, MarkTables.marked_in, MarkTables.size_of_marks, Stands.IsStand};
+ghost use Rattle.sim_path.specs.Live.{AreLive, AreLiveBut, is_dead, IsFall, IsSpread, IsSpreadFrom, twice};
 ghost use Rattle.sim_path.specs.Straight.{IsFirstTight, IsTightStep, IsTightTrail};
 
 use crate::marks::Marks;
-use crate::reached::Reached;
 use crate::slope::Slope;
+use crate::stand::Stand;
 use sim_base::{Cell, OutOfMemory};
-use sim_grid::Grid;
-use sim_search::{Distances, Guide, Toward, is_free, moves_from, step, step_cost};
+use sim_grid::{Grid, Spot};
+use sim_search::{Distances, Guide, Toward, is_free, moves_from, step_beside, step_cost};
 
 // As many cells as a ground has at most.
 const MOST_CELLS: u32 = 65_536;
@@ -25,22 +25,20 @@ fn falling_step(
     grid: &Grid,
     distances: &Distances,
     start: Cell,
-    at: Reached,
-    moves: u8,
+    at: Stand,
     which: u8,
 ) -> Option<Cell>
     requires which_in { which < 8 }
-    requires at_on { IsOnGround grid.now.size at.cell }
-    requires moves { AreMoves (field_of_grid grid.now) start at.cell moves }
-    requires cost { at.cost ≡ 2 * number_in distances.now at.cell }
-    ensures none { result ≡ None → (b : Cell) → IsFall (field_of_grid grid.now) start (number_in distances.now) at.cell b which → ⊥ }
+    requires at { IsStand (field_of_grid grid.now) start (twice (number_in distances.now)) at }
+    requires size { size_about distances.now ≡ grid.now.size }
+    ensures none { result ≡ None → (b : Cell) → IsFall (field_of_grid grid.now) start (number_in distances.now) at.spot.cell b which → ⊥ }
     ensures some { (b : Cell) → result ≡ Some b → IsOnGround grid.now.size b }
-    ensures only { (a b : Cell) → result ≡ Some a → IsFall (field_of_grid grid.now) start (number_in distances.now) at.cell b which → a ≡ b }
+    ensures only { (a b : Cell) → result ≡ Some a → IsFall (field_of_grid grid.now) start (number_in distances.now) at.spot.cell b which → a ≡ b }
 {
-    let to = step(grid, start, at.cell, moves, which)?;
-    let left = Toward { distances }.estimate(to);
+    let to = step_beside(grid, start, at.spot, at.moves, which)?;
+    let left = 2 * u32::from(distances.at_spot(to));
     if left + step_cost(which) == at.cost {
-        Some(to)
+        Some(to.cell)
     } else {
         None
     }
@@ -72,15 +70,19 @@ fn mark_from(
 ) -> Result<(), OutOfMemory>
     requires start_on { IsOnGround grid.now.size start }
     requires cell_on { IsOnGround grid.now.size cell }
-    requires size { size_of_marks live.old ≡ grid.now.size }
+    requires marks { size_of_marks live.old ≡ grid.now.size }
+    requires size { size_about distances.now ≡ grid.now.size }
     requires on { (c : Cell) → Contains list.old.items c → IsOnGround grid.now.size c }
     ensures { OnOk result (IsSpreadFrom (field_of_grid grid.now) start (number_in distances.now) live.old live.new list.old.items list.new.items 8 cell) }
 {
-    let moves = moves_from(grid, start, cell);
-    let cost = Toward { distances }.estimate(cell);
-    let at = Reached { cell, cost };
+    let place = grid.place(cell);
+    let at = Stand {
+        spot: Spot { cell, place },
+        moves: moves_from(grid, start, cell),
+        cost: Toward { distances }.estimate(cell),
+    };
     for which in 0..8u8 {
-        if let Some(to) = falling_step(grid, distances, start, at, moves, which) {
+        if let Some(to) = falling_step(grid, distances, start, at, which) {
             mark(live, list, to)?;
         }
     }
@@ -97,6 +99,7 @@ fn mark_all(
 ) -> Result<bool, OutOfMemory>
     requires start_on { IsOnGround grid.now.size start }
     requires none { IsNoneMarked grid.now.size live.old }
+    requires size { size_about distances.now ≡ grid.now.size }
     ensures { IfOk result (λ all. all ≡ true → AreLive (field_of_grid grid.now) start (number_in distances.now) (marked_in live.new)) }
 {
     list.clear();
@@ -118,21 +121,20 @@ fn live_step(
     slope: &Slope<'_>,
     live: &Marks,
     start: Cell,
-    at: Reached,
-    moves: u8,
+    at: Stand,
     which: u8,
 ) -> Option<Cell>
     requires which_in { which < 8 }
-    requires at_on { IsOnGround grid.now.size at.cell }
-    requires moves { AreMoves (field_of_grid grid.now) start at.cell moves }
-    requires cost { at.cost ≡ slope_of slope.now at.cell }
-    ensures none { result ≡ None → (p : Cell) → IsTightStep (field_of_grid grid.now) start (slope_of slope.now) at.cell p which → is_dead live.now p ≡ true }
-    ensures some { (p : Cell) → result ≡ Some p → IsTightStep (field_of_grid grid.now) start (slope_of slope.now) at.cell p which }
+    requires at { IsStand (field_of_grid grid.now) start (slope_of slope.now) at }
+    requires size { size_about slope.now.distances.now ≡ grid.now.size }
+    ensures none { result ≡ None → (p : Cell) → IsTightStep (field_of_grid grid.now) start (slope_of slope.now) at.spot.cell p which
+        → is_dead live.now p ≡ true }
+    ensures some { (p : Cell) → result ≡ Some p → IsTightStep (field_of_grid grid.now) start (slope_of slope.now) at.spot.cell p which }
 {
-    let from = step(grid, start, at.cell, moves, which)?;
+    let from = step_beside(grid, start, at.spot, at.moves, which)?;
     let cost = at.cost.checked_sub(step_cost(which))?;
-    if live.at(from) && slope.left(from) == cost {
-        Some(from)
+    if slope.left_at(from) == cost && live.at(from.cell) {
+        Some(from.cell)
     } else {
         None
     }
@@ -142,13 +144,17 @@ fn live_step(
 fn first_live(grid: &Grid, slope: &Slope<'_>, live: &Marks, start: Cell, cell: Cell) -> Option<Cell>
     requires start_on { IsOnGround grid.now.size start }
     requires cell_on { IsOnGround grid.now.size cell }
+    requires size { size_about slope.now.distances.now ≡ grid.now.size }
     ensures { IsFirstTight (field_of_grid grid.now) start (slope_of slope.now) (is_dead live.now) cell 8 result }
 {
-    let moves = moves_from(grid, start, cell);
-    let cost = slope.left(cell);
-    let at = Reached { cell, cost };
+    let place = grid.place(cell);
+    let at = Stand {
+        spot: Spot { cell, place },
+        moves: moves_from(grid, start, cell),
+        cost: slope.left(cell),
+    };
     for which in 0..8u8 {
-        if let Some(from) = live_step(grid, slope, live, start, at, moves, which) {
+        if let Some(from) = live_step(grid, slope, live, start, at, which) {
             return Some(from);
         }
     }

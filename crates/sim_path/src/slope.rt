@@ -1,18 +1,19 @@
 //! What walks from a start cost at least, by the distances to a goal that a way from there has. As these are exact, it is just what a
 //! walk costs to each cell of a shortest way.
 
-ghost use Rattle.{sim_base.specs.Steps.IsOnGround, sim_base.specs.declared.place.Cell.Cell, sim_grid.specs.Grids.field_of_grid};
-ghost use Rattle.std.specs.Prelude.{◌≡◌, ◌*◌, ◌<◌, true, Some, None};
-ghost use Rattle.sim_search.specs.{Distances.number_in, Moves.AreMoves};
-ghost use Rattle.sim_path.specs.{Floors.slope_of, MarkTables.marked_in};
+ghost use Rattle.sim_base.specs.{Steps.IsOnGround, Steps.octile as octile_of, declared.place.Cell.Cell};
+ghost use Rattle.sim_grid.specs.{Grids.field_of_grid, Spots.IsSpot};
+ghost use Rattle.std.specs.Prelude.{◌≡◌, ◌+◌, ◌*◌, ◌<◌, ◌≤◌, ◌≢◌, ◌↔◌, true, false, IsTrue, Some, None};
+ghost use Rattle.sim_search.specs.Distances.{number_in, size_about};
+ghost use Rattle.sim_path.specs.{Floors.slope_of, MarkTables.marked_in, Stands.IsStand};
 ghost use Rattle.sim_path.specs.Straight.{IsFirstTight, IsTight, IsTightStep};
 
 use crate::floor::{Descent, Floor};
 use crate::marks::Marks;
-use crate::reached::Reached;
+use crate::stand::Stand;
 use sim_base::Cell;
-use sim_grid::{Grid, octile};
-use sim_search::{Distances, Guide, Toward, moves_from, step, step_cost};
+use sim_grid::{Grid, Spot, octile};
+use sim_search::{Distances, Guide, Toward, moves_from, step_beside, step_cost};
 
 /// The distances to a goal, and what a way there costs from a start.
 #[derive(Clone, Copy)]
@@ -23,8 +24,8 @@ pub struct Slope<'a> {
 
 impl<'a> Slope<'a> {
     ghost use Rattle.std.specs.Prelude.{◌≡◌, ◌*◌, ◌-◌};
-    ghost use Rattle.sim_search.specs.Distances.{number_in};
-    ghost use Rattle.sim_path.specs.Floors.{slope_of};
+    ghost use Rattle.{sim_grid.specs.Spots.IsSpot, sim_path.specs.Floors.slope_of};
+    ghost use Rattle.sim_search.specs.Distances.{number_in, size_about};
 
     /// That of ways from a start.
     pub fn of(distances: &'a Distances, start: Cell) -> Slope<'a>
@@ -44,6 +45,37 @@ impl<'a> Slope<'a> {
         self.whole
             .saturating_sub(Toward { distances }.estimate(cell))
     }
+
+    /// The same for a cell of the ground whose place is known.
+    #[inline(always)]
+    pub fn left_at(&self, spot: Spot) -> u32
+        requires { IsSpot (size_about self.now.distances.now) spot }
+        ensures { result ≡ slope_of self.now spot.cell }
+    {
+        self.whole
+            .saturating_sub(2 * u32::from(self.distances.at_spot(spot)))
+    }
+}
+
+// Whether the distance of a cell tells that a step of this cost from there does not make up such a cost of the way. Of the cells about one
+// it tells so of nearly all, and nothing else is read of these.
+#[inline(always)]
+fn falls_short(slope: &Slope<'_>, from: Spot, step: u32, cost: u32) -> bool
+    requires { IsSpot (size_about slope.now.distances.now) from }
+    ensures { result ≡ true → slope_of slope.now from.cell + step ≢ cost }
+{
+    let Slope { distances, whole } = *slope;
+    let number = u64::from(distances.at_spot(from));
+    2 * number + u64::from(cost) < u64::from(whole) + u64::from(step)
+}
+
+// Whether the way leaves such a cost for a cell that isn't dead, and that is enough for the octile distance. Few cells come so far, so
+// it is no part of the loop.
+#[inline(never)]
+fn makes_up(slope: &Slope<'_>, start: Cell, cell: Cell, cost: u32, dead: &Marks) -> bool
+    ensures { IsTrue result ↔ (slope_of slope.now cell ≡ cost) × (marked_in dead.now cell ≡ false) × (octile_of cell start ≤ cost) }
+{
+    slope.left(cell) == cost && !dead.at(cell) && octile(cell, start) <= cost
 }
 
 // The cell in a direction from which a step makes up what the way leaves for this one, if the octile distance leaves enough for it and it
@@ -53,26 +85,25 @@ fn slope_step(
     grid: &Grid,
     slope: &Slope<'_>,
     start: Cell,
-    at: Reached,
-    moves: u8,
+    at: Stand,
     which: u8,
     dead: &Marks,
 ) -> Option<Cell>
     requires which_in { which < 8 }
-    requires at_on { IsOnGround grid.now.size at.cell }
-    requires moves { AreMoves (field_of_grid grid.now) start at.cell moves }
-    requires cost { at.cost ≡ slope_of slope.now at.cell }
-    ensures none { result ≡ None → (p : Cell) → IsTightStep (field_of_grid grid.now) start (slope_of slope.now) at.cell p which
+    requires at { IsStand (field_of_grid grid.now) start (slope_of slope.now) at }
+    requires size { size_about slope.now.distances.now ≡ grid.now.size }
+    ensures none { result ≡ None → (p : Cell) → IsTightStep (field_of_grid grid.now) start (slope_of slope.now) at.spot.cell p which
         → IsTight (field_of_grid grid.now) start (slope_of slope.now) p → marked_in dead.now p ≡ true }
-    ensures some { (p : Cell) → result ≡ Some p → IsTightStep (field_of_grid grid.now) start (slope_of slope.now) at.cell p which }
+    ensures some { (p : Cell) → result ≡ Some p → IsTightStep (field_of_grid grid.now) start (slope_of slope.now) at.spot.cell p which }
 {
-    let from = step(grid, start, at.cell, moves, which)?;
-    let cost = at.cost.checked_sub(step_cost(which))?;
-    if slope.left(from) != cost || dead.at(from) {
+    let from = step_beside(grid, start, at.spot, at.moves, which)?;
+    let step = step_cost(which);
+    if falls_short(slope, from, step, at.cost) {
         return None;
     }
-    if octile(from, start) <= cost {
-        Some(from)
+    let cost = at.cost.checked_sub(step)?;
+    if makes_up(slope, start, from.cell, cost, dead) {
+        Some(from.cell)
     } else {
         None
     }
@@ -88,13 +119,17 @@ fn first_descent(
 ) -> Option<Cell>
     requires start_on { IsOnGround grid.now.size start }
     requires cell_on { IsOnGround grid.now.size cell }
+    requires size { size_about slope.now.distances.now ≡ grid.now.size }
     ensures { IsFirstTight (field_of_grid grid.now) start (slope_of slope.now) (marked_in dead.now) cell 8 result }
 {
-    let moves = moves_from(grid, start, cell);
-    let cost = slope.left(cell);
-    let at = Reached { cell, cost };
+    let place = grid.place(cell);
+    let at = Stand {
+        spot: Spot { cell, place },
+        moves: moves_from(grid, start, cell),
+        cost: slope.left(cell),
+    };
     for which in 0..8u8 {
-        if let Some(from) = slope_step(grid, slope, start, at, moves, which, dead) {
+        if let Some(from) = slope_step(grid, slope, start, at, which, dead) {
             return Some(from);
         }
     }

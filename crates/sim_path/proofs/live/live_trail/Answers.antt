@@ -1,5 +1,5 @@
 use Rattle.sim_path.proofs.Common.{rules, same_cell, same_cell-self, same_cell-true, subst, sym, true≢false, ◌∙◌}
-use Rattle.sim_path.proofs.Common.{◌≡◌, true, false, ◌≢◌, List, Option, ap, Cell, false≢true, field_of_grid, IfOk-from_err, is_free, IsFirstTight, IsFloor}
+use Rattle.sim_path.proofs.Common.{◌≡◌, true, false, ◌≢◌, List, Option, ap, Cell, field_of_grid, is_free, IsFirstTight}
 use Rattle.sim_path.proofs.{LiveWays.live-begins, LiveWays.live-dead, TightTrails.at-further, TightTrails.chain-done, TightTrails.IsAt}
 use Rattle.sim_path.specs.SlopeLaws.{slope-floor}
 use Rattle.sim_path.specs.{Floors.slope_of, Live.is_dead, MarkTables.marked_in}
@@ -36,3 +36,6 @@ loop-preserved c =
     let further = at-further field start (slope_of slope) c.requires.start (slope-floor field start slope c.requires.slope) c.args.goal c.loop.trail.items dead
     at from other c.loop.invariant (subst (λ (o : Option Cell). IsFirstTight field start (slope_of slope) dead at 8 o) c.in-Some.is c.first_live.ensures) in
     subst (λ (t : List Cell). IsAt field start (slope_of slope) c.args.goal t dead from) (sym c.in_ok-push.ensures.items) further
+
+pub first_live-requires-clause-size : goal.first_live-requires-clause-size
+first_live-requires-clause-size c = c.requires.slope.size_is

@@ -1,5 +1,5 @@
 use Rattle.sim_path.proofs.LiveMarks.{spread-more, spread-past}
-use Rattle.sim_path.proofs.Common.{◌≡◌, ap, Cell, field_of_grid, IsOnGround, marked_in, Size, subst, sym, ◌∙◌, true}
+use Rattle.sim_path.proofs.Common.{◌≡◌, Cell, field_of_grid, IsOnGround, marked_in, Size, subst, sym, true}
 use Rattle.sim_path.specs.Live.{IsSpread}
 use Rattle.sim_search.specs.Distances.{number_in}
 use Rattle.sim_path.proofs.live.mark_from.Goals.{in-Some+in_ok-mark, in_default}
@@ -28,3 +28,7 @@ loop-which-preserved c =
           rw (w.live-is, w.list-is) (spread-past field start number old live first list c.loop-which.which c.args.cell c.loop-which.invariant
           (c.falling_step.ensures.none w.in_default.is))
     ]
+
+pub falling_step-requires-clause-at : goal.falling_step-requires-clause-at
+falling_step-requires-clause-at c =
+    record { spot = record { on = c.requires.cell_on; place_is = c.place-place.ensures }; moves = c.moves_from.ensures; cost_is = c.estimate.ensures.is }

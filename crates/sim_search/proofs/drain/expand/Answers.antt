@@ -1,4 +1,4 @@
-use Rattle.sim_search.proofs.Common.{◌+◌, field_of_grid, IfOk-from_err, Search, subst, sym, ◌∙◌}
+use Rattle.sim_search.proofs.Common.{◌+◌, field_of_grid, IfOk-from_err, Search, subst, sym}
 use Rattle.sim_search.proofs.Draining.{expanded, Expanding, expanding_begins, expanding_more, expanding_none}
 use Rattle.sim_search.proofs.drain.expand.Goals.{in-Some+in_ok-lower, in_default}
 use Rattle.sim_search.proofs.drain.expand.Goals as goal

@@ -3,7 +3,7 @@ use Rattle.sim_path.proofs.{Found.if_ok, LiveWays.goal-end}
 use Rattle.sim_path.proofs.Common.{◌≡◌, ◌*◌, ap, Bool, cell_of, field_of_grid, inside-on_ground, IsOnGround, IsTightTrail, IsTrailToEnd, subst, sym, true, ◌∙◌}
 use Rattle.sim_path.specs.SlopeLaws.{slope-floor}
 use Rattle.sim_path.specs.{Floors.IsSlope, Floors.slope_of}
-use Rattle.sim_search.specs.{Distances.AreDistances, Distances.number_in, declared.distances.Distances.Distances}
+use Rattle.sim_search.specs.{Distances.AreDistances, Distances.number_in, Distances.size_about, declared.distances.Distances.Distances}
 use Rattle.sim_path.proofs.answer.Searcher.go_live.Goals as goal
 
 pub returns : goal.returns
@@ -17,6 +17,7 @@ returns c =
     let kept = sym c.of-slope.ensures.distances in
     let is : IsSlope field start slope = record {
       goal = cell_of c.args.goal.now;
+      size_is = ap size_about c.of-slope.ensures.distances ∙ c.requires.size;
       is_open = ap field.is_open c.cell_of-from.ensures.cell ∙ c.requires.is_open;
       distances = subst (λ (d : Distances). AreDistances field (cell_of c.args.goal.now) (number_in d)) kept c.requires.distances;
       whole = c.of-slope.ensures.whole ∙ ap (λ (d : Distances). 2 * number_in d start) kept;

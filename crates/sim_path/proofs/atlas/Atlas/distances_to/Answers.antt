@@ -10,11 +10,18 @@ item-on : (field : Field) (items lent : List Distances) (n : ℕ) (item other : 
 item-on field items lent n item other e is lt all =
     subst (AreOn field) (sym is) (subst (λ (l : List Distances). All (AreOn field) l) (sym e) all n other lt)
 
-pub returns-then-eq : goal.returns-then-eq
-returns-then-eq c =
+pub returns-then-eq-clause-distances : goal.returns-then-eq-clause-distances
+returns-then-eq-clause-distances c =
     let field = field_of_grid (ground_in c.args.self.now.cells) in
     let item = c.distances-item.result in
     let there : item.goal ≡ c.args.goal = same_cell-true item.goal c.args.goal (sym c.eq.ensures ∙ c.if-eq.true) in
     subst (λ (g : Cell). AreDistances field g (number_in item)) there
     (item-on field c.args.self.now.goals.items c.as_slice-distances-items.result.now c.loop-distances.distances-index item _
-    c.as_slice-distances-items.ensures.value c.distances-item.is c.loop-distances-test.true c.args.self.now.near)
+    c.as_slice-distances-items.ensures.value c.distances-item.is c.loop-distances-test.true c.args.self.now.near).distances
+
+pub returns-then-eq-clause-size : goal.returns-then-eq-clause-size
+returns-then-eq-clause-size c =
+    let field = field_of_grid (ground_in c.args.self.now.cells) in
+    let item = c.distances-item.result in
+    (item-on field c.args.self.now.goals.items c.as_slice-distances-items.result.now c.loop-distances.distances-index item _
+    c.as_slice-distances-items.ensures.value c.distances-item.is c.loop-distances-test.true c.args.self.now.near).size_is

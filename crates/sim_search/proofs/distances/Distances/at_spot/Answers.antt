@@ -1,5 +1,4 @@
 use Rattle.sim_grid.proofs.Beside.{place-below}
-use Rattle.sim_search.proofs.Cells.{entry_at-on}
 use Rattle.sim_search.proofs.Common.{arith}
 use Rattle.sim_search.specs.Distances.{size_about}
 use Rattle.sim_search.proofs.distances.Distances.at_spot.Goals as goal
