@@ -109,16 +109,37 @@ fn run_here(
     requires kinds { All (λ r. HaveKinds (systems_of r ⟦<dyn System as System>⟧)) rigs.items }
     requires cleared { All (λ r. AreCleared (systems_of r ⟦<dyn System as System>⟧)) rigs.items }
 {
-    let mut handlers = Vec::with_capacity(alloc, 7)?;
-    for kind in 1..7u8 {
-        let run: Planner = Box::new(alloc, planned_as_usual)?;
-        handlers.push(Handler { kind, run })?;
-    }
+    let walk: Planner = Box::new(alloc, planned_as_usual)?;
+    let stop: Planner = Box::new(alloc, planned_as_usual)?;
+    let attack: Planner = Box::new(alloc, planned_as_usual)?;
+    let delete: Planner = Box::new(alloc, planned_as_usual)?;
+    let place: Planner = Box::new(alloc, planned_as_usual)?;
+    let train: Planner = Box::new(alloc, planned_as_usual)?;
     let resign: Planner = Box::new(alloc, resigned)?;
-    handlers.push(Handler {
-        kind: 7,
-        run: resign,
-    })?;
+    let handlers = vec![in alloc;
+        Handler { kind: 1, run: walk },
+        Handler { kind: 2, run: stop },
+        Handler {
+            kind: 3,
+            run: attack
+        },
+        Handler {
+            kind: 4,
+            run: delete
+        },
+        Handler {
+            kind: 5,
+            run: place
+        },
+        Handler {
+            kind: 6,
+            run: train
+        },
+        Handler {
+            kind: 7,
+            run: resign
+        },
+    ]?;
     let orders = OrderTable::new(handlers);
     let ended = run(alloc, words, shelf, out, rigs, &orders, deeds);
     Ok(ended.status)
