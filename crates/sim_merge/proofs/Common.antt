@@ -21,7 +21,7 @@ pub use Rattle.sim_merge.specs.{Faults.IfBadOp, Faults.IfRefusal, Keeping.AreRes
 pub use Rattle.sim_merge.specs.{Laying.there, Laying.with_laid, Laying.with_lower, Laying.with_value, Resolution.root_there, Resolution.roots_in}
 pub use Rattle.sim_merge.specs.{Operations.function_of, Operations.number_by, declared.fault.MergeFault.MergeFault, declared.fault.OverlayFault.OverlayFault}
 pub use Rattle.sim_merge.specs.Laying.{absent, before, behind, followed_by, laid, laid_under, Laying, lower_children, lower_value, over_children, refused}
-pub use Rattle.sim_merge.specs.Merging.{IsMerged, IsPast, IsTreeOf, laid_unmarked, laying_of, node_if}
+pub use Rattle.sim_merge.specs.Merging.{IsPast, IsTreeOf, laid_unmarked, laying_of, node_if}
 pub use Rattle.sim_merge.specs.Overlay.{at_if, below, below_if, HasLaid, is_bad, is_refused_at, IsRefused, lay, laying_at, lower_at, Path, Paths, paths_if}
 pub use Rattle.sim_merge.specs.Overlay.{plain, root_by, root_mark, root_value, root_with, unmarked_below}
 pub use Rattle.sim_merge.specs.Resolution.{are_distinct, bare, chain_fault, chain_from, chain_refusal, chain_root, inherited, is_endless, is_missing, is_orphan}

@@ -1,6 +1,6 @@
 -- The steps of an overlay, as steps of its definition.
 use Rattle.sim_merge.proofs.{ChildrenLemmas.with_lower-followed_by, Common.value_of, Common.value_over, Common.with_laid, Common.with_lower, Common.◌∙◌}
-use Rattle.sim_merge.proofs.Common.{followed_by, IfBadOp, IsMerged, IsPast, laid, laid_under, laid_unmarked, Laying, lower_children, lower_value, Node, node}
+use Rattle.sim_merge.proofs.Common.{followed_by, IfBadOp, IsPast, laid, laid_under, laid_unmarked, Laying, lower_children, lower_value, Node, node}
 use Rattle.sim_merge.proofs.Common.{node_of, nodes_of, out-Tree, over_children, OverlayFault, refused, roll-Tree, sym, there, Tree, Tree-F, under, Value}
 use Rattle.sim_merge.proofs.Common.{◌≡◌, ℕ, true, List, Some, None, Option, refl, ap, are_sound, before, behind, Child, child, child_named, Children}
 use Rattle.sim_merge.proofs.NodeLemmas.{node_of-out, node_of-roll}
@@ -22,14 +22,12 @@ laid_under-past name upper old pushed lower rest past more =
 
 pub merged-step : (name : List ℕ) (upper : Node) (old pushed new lower rest left : Children) (laying : Laying) → IsPast name old pushed lower rest →
     laid (child_named name rest) upper ≡ laying → ((more : Option Children) → with_lower pushed (with_laid name laying more) ≡ with_lower new more) →
-    left ≡ behind name rest → are_sound left ≡ true → IsMerged name upper old new lower left
-merged-step name upper old pushed new lower rest left laying past is added is_behind sound = record {
-  merged = λ more. laid_under-past name upper old pushed lower rest past more
-      ∙ ap (λ l. with_lower pushed (with_laid name l (laid_under (behind name rest) more))) is
-      ∙ added (laid_under (behind name rest) more)
-      ∙ ap (λ cs. with_lower new (laid_under cs more)) (sym is_behind);
-  sound = sound;
-}
+    left ≡ behind name rest → (more : Children) → with_lower old (laid_under lower (child name upper more)) ≡ with_lower new (laid_under left more)
+merged-step name upper old pushed new lower rest left laying past is added is_behind more =
+    laid_under-past name upper old pushed lower rest past more
+    ∙ ap (λ l. with_lower pushed (with_laid name l (laid_under (behind name rest) more))) is
+    ∙ added (laid_under (behind name rest) more)
+    ∙ ap (λ cs. with_lower new (laid_under cs more)) (sym is_behind)
 
 none_from-with_lower : (cs : Children) (more : Option Children) → with_lower cs more ≡ None → more ≡ None
 none_from-with_lower cs None e = refl

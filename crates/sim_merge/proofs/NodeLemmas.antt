@@ -32,6 +32,11 @@ pub nodes_of-at : (xs : List Child) (i : ℕ) (c : Child) → i < length xs → 
 nodes_of-at xs i c within is =
     at_drop_more nodes_of xs i c within ∙ ap (λ x. child (named_of x).0 (named_of x).1 (nodes_of (drop (i + 1) xs))) (sym is)
 
+pub nodes_of-child : (xs : List Child) (i : ℕ) (c : Child) → i < length xs → c ≡ get_or xs i c →
+    nodes_of (drop i xs) ≡ child (out-Child c).name (node_of (out-Child c).tree) (nodes_of (drop (i + 1) xs))
+nodes_of-child xs i c within is =
+    nodes_of-at xs i c within is ∙ ap (λ (p : List ℕ × Node). child p.0 p.1 (nodes_of (drop (i + 1) xs))) (named_of-out c)
+
 pub nodes_of-first : (xs : List Child) (c : Child) → 0 < length xs → c ≡ get_or xs 0 c →
     nodes_of xs ≡ child (named_of c).0 (named_of c).1 (nodes_of (drop 1 xs))
 nodes_of-first xs c within is = nodes_of-at xs 0 c within is

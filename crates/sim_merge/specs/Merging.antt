@@ -1,9 +1,9 @@
 -- What the steps of an overlay do to lists of children: the words in which its functions speak of trees in memory.
 use Rattle.{sim_tree.specs.declared.tree.Tree.Tree, std.specs.Borrow.Bor}
 use Rattle.std.specs.Prelude.{◌≡◌, ℕ, Bool, true, List, Some, None, Ok, Err, Option, Result}
-use Rattle.sim_merge.specs.{Faults.IfBadOp, Laying.with_lower, Values.value_over, declared.fault.OverlayFault.OverlayFault}
+use Rattle.sim_merge.specs.{Faults.IfBadOp, Values.value_over, declared.fault.OverlayFault.OverlayFault}
 use Rattle.sim_merge.specs.Laying.{absent, before, behind, followed_by, laid_under, Laying, lower_children, lower_value, over_children, refused, there}
-use Rattle.sim_tree.specs.Trees.{are_sound, child, child_named, Children, is_sound, no_children, Node, node_of, under, value_of}
+use Rattle.sim_tree.specs.Trees.{are_sound, child_named, Children, is_sound, no_children, Node, node_of, under, value_of}
 
 -- the node behind a reference, if there is a tree
 abbrev pub node_if : Option (Bor Tree) → Option Node
@@ -34,9 +34,4 @@ pub record IsPast (name : List ℕ) (old new lower rest : Children) : Type 0 whe
   pub none_before : before name rest ≡ no_children
   pub named : child_named name rest ≡ child_named name lower
   pub behind : behind name rest ≡ behind name lower
-  pub sound : are_sound rest ≡ true
-
--- an upper child is laid, whichever others come behind it
-pub record IsMerged (name : List ℕ) (upper : Node) (old new lower rest : Children) : Type 0 where
-  pub merged : (more : Children) → with_lower old (laid_under lower (child name upper more)) ≡ with_lower new (laid_under rest more)
   pub sound : are_sound rest ≡ true

@@ -16,7 +16,7 @@ use std::alloc::Global;
 const MOST_SEEN: usize = 17;
 
 /// Whether no two templates have one name.
-pub fn names_differ(sources: &[Source]) -> bool
+pub fn names_differ(sources: &[Source<'_>]) -> bool
     ensures { result ≡ are_distinct (names_in (origins_of sources.now)) }
 {
     let mut rest = sources;
@@ -29,7 +29,7 @@ pub fn names_differ(sources: &[Source]) -> bool
     true
 }
 
-fn has_name(sources: &[Source], name: &str) -> bool
+fn has_name(sources: &[Source<'_>], name: &str) -> bool
     ensures { result ≡ list_any (bytes_eq name.now) (names_in (origins_of sources.now)) }
 {
     for source in sources {
@@ -41,7 +41,7 @@ fn has_name(sources: &[Source], name: &str) -> bool
 }
 
 /// The names of templates, by number.
-pub fn names_of(alloc: Global, sources: &[Source]) -> Result<IndexSet<String>, OutOfMemory>
+pub fn names_of(alloc: Global, sources: &[Source<'_>]) -> Result<IndexSet<String>, OutOfMemory>
     requires { are_distinct (names_in (origins_of sources.now)) ≡ true }
     ensures { IfOk result (λ names. map string_bytes names.keys ≡ names_in (origins_of sources.now)) }
 {
@@ -66,7 +66,7 @@ fn add_name(alloc: Global, names: &mut IndexSet<String>, name: &Name) -> Result<
 pub fn parents_of(
     alloc: Global,
     names: &IndexSet<String>,
-    sources: &[Source],
+    sources: &[Source<'_>],
 ) -> Result<Vec<Option<usize>>, MergeFault>
     requires few { length sources.now ≤ 256 }
     requires names { map string_bytes names.now.keys ≡ names_in (origins_of sources.now) }
@@ -85,7 +85,7 @@ pub fn parents_of(
 }
 
 // The first template whose parent is not there.
-fn first_orphan(names: &IndexSet<String>, sources: &[Source]) -> Option<usize>
+fn first_orphan(names: &IndexSet<String>, sources: &[Source<'_>]) -> Option<usize>
     ensures { result ≡ position (is_orphan_among (map string_bytes names.now.keys)) (origins_of sources.now) }
 {
     for (number, source) in sources.iter().enumerate() {
@@ -96,7 +96,7 @@ fn first_orphan(names: &IndexSet<String>, sources: &[Source]) -> Option<usize>
     None
 }
 
-fn is_orphan(names: &IndexSet<String>, source: &Source) -> bool
+fn is_orphan(names: &IndexSet<String>, source: &Source<'_>) -> bool
     ensures { result ≡ is_orphan_among (map string_bytes names.now.keys) (origin_of source.now) }
 {
     source.parent.is_some() && parent_of(names, source).is_none()
@@ -105,7 +105,7 @@ fn is_orphan(names: &IndexSet<String>, source: &Source) -> bool
 fn numbers_of(
     alloc: Global,
     names: &IndexSet<String>,
-    sources: &[Source],
+    sources: &[Source<'_>],
 ) -> Result<Vec<Option<usize>>, OutOfMemory>
     ensures { IfOk result (λ parents. parents.items ≡ map (parent_among (map string_bytes names.now.keys)) (origins_of sources.now)) }
 {
@@ -116,7 +116,7 @@ fn numbers_of(
     Ok(parents)
 }
 
-fn parent_of(names: &IndexSet<String>, source: &Source) -> Option<usize>
+fn parent_of(names: &IndexSet<String>, source: &Source<'_>) -> Option<usize>
     ensures { result ≡ parent_among (map string_bytes names.now.keys) (origin_of source.now) }
 {
     match &source.parent {

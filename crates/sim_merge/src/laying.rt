@@ -4,8 +4,8 @@ ghost use Rattle.std.specs.Prelude.{◌≡◌, true, IfOk, IfErr, IsTrue, MatchR
 ghost use Rattle.sim_merge.specs.{Faults.IfBadOp, Libraries.is_layable, Libraries.is_resolved, Overlay.HasLaid, Overlay.IsRefused};
 ghost use Rattle.sim_merge.specs.{Operations.function_of, Values.value_by, Values.value_over as value_over_value, Values.words_over as words_over_words};
 ghost use Rattle.sim_merge.specs.Laying.{laid, laid_under, lower_children, lower_value, refused, there, with_value};
-ghost use Rattle.sim_merge.specs.Merging.{is_sound_if, IsMerged, IsTreeOf, laid_unmarked, laying_of, node_if};
-ghost use Rattle.sim_tree.specs.Trees.{are_sound, child, Children, is_sound, mark_of, named_of, node, node_of, nodes_of, value_of as value_of_node};
+ghost use Rattle.sim_merge.specs.Merging.{is_sound_if, IsTreeOf, laid_unmarked, laying_of, node_if};
+ghost use Rattle.sim_tree.specs.Trees.{are_sound, mark_of, node, node_of, nodes_of, value_of as value_of_node};
 
 use crate::fault::OverlayFault;
 use crate::merge::{
@@ -18,7 +18,11 @@ use sim_tree::{Child, Text, Tree, TreeMark};
 use std::alloc::Global;
 
 /// The upper tree laid over the lower one, by its marks.
-pub fn overlay(alloc: Global, lower: &Tree, upper: &Tree) -> Result<Tree, OverlayFault>
+pub fn overlay<'a>(
+    alloc: Global,
+    lower: &Tree<'a>,
+    upper: &Tree<'a>,
+) -> Result<Tree<'a>, OverlayFault>
     requires lower { IsTrue (is_resolved (node_of lower.now)) }
     requires upper { IsTrue (is_layable (node_of upper.now)) }
     ensures resolved { IfOk result (λ tree. IsTrue (is_resolved (node_of tree))) }
@@ -32,7 +36,11 @@ pub fn overlay(alloc: Global, lower: &Tree, upper: &Tree) -> Result<Tree, Overla
 
 // The upper tree laid over the lower one, if there is a lower one, or nothing.
 #[cycle(laying)]
-fn lay(alloc: Global, upper: &Tree, lower: Option<&Tree>) -> Result<Option<Tree>, OverlayFault>
+fn lay<'a>(
+    alloc: Global,
+    upper: &Tree<'a>,
+    lower: Option<&Tree<'a>>,
+) -> Result<Option<Tree<'a>>, OverlayFault>
     requires { is_sound_if (node_if lower) ≡ true }
     ensures laid { MatchResult result
         (λ found. laid (node_if lower.entry) (node_of upper.now) ≡ laying_of found)
@@ -63,14 +71,18 @@ fn lay(alloc: Global, upper: &Tree, lower: Option<&Tree>) -> Result<Option<Tree>
 
 // The upper tree as if its root had no mark.
 #[cycle(laying)]
-fn unmarked(alloc: Global, upper: &Tree, lower: Option<&Tree>) -> Result<Tree, OverlayFault>
+fn unmarked<'a>(
+    alloc: Global,
+    upper: &Tree<'a>,
+    lower: Option<&Tree<'a>>,
+) -> Result<Tree<'a>, OverlayFault>
     requires { is_sound_if (node_if lower) ≡ true }
     ensures { MatchResult result
         (λ tree. laid_unmarked (node_if lower.entry) (node_of upper.now) ≡ there (node_of tree))
         (λ fault. IfBadOp fault (laid_unmarked (node_if lower.entry) (node_of upper.now) ≡ refused)) }
 {
     let children = merged(alloc, upper.children.as_slice(), children_of(lower))?;
-    let value = value_over(alloc, upper, lower)?;
+    let value = value_over(upper, lower)?;
     Ok(Tree {
         value,
         mark: None,
@@ -80,7 +92,11 @@ fn unmarked(alloc: Global, upper: &Tree, lower: Option<&Tree>) -> Result<Tree, O
 
 // Children over those of the lower tree. Both ascend by name, so each is walked once.
 #[cycle(laying)]
-fn merged(alloc: Global, upper: &[Child], lower: &[Child]) -> Result<Vec<Child>, OverlayFault>
+fn merged<'a>(
+    alloc: Global,
+    upper: &[Child<'a>],
+    lower: &[Child<'a>],
+) -> Result<Vec<Child<'a>>, OverlayFault>
     requires { are_sound (nodes_of lower.now) ≡ true }
     ensures { MatchResult result
         (λ children. laid_under (nodes_of lower.now) (nodes_of upper.now) ≡ Some (nodes_of children.items))
@@ -89,59 +105,39 @@ fn merged(alloc: Global, upper: &[Child], lower: &[Child]) -> Result<Vec<Child>,
     let mut children = Vec::new(alloc);
     let mut rest = lower;
     for child in upper {
-        rest = push_merged(alloc, child, rest, &mut children)?;
+        let name = child.name.as_str();
+        rest = push_before(alloc, &mut children, rest, name)?;
+        let laid = lay(alloc, &child.tree, first_named(rest, name))?;
+        push_laid(&mut children, &child.name, laid)?;
+        rest = behind(rest, name);
     }
     push_copies(alloc, &mut children, rest)?;
     Ok(children)
 }
 
-// Adds the lower children up to a name and what becomes of the upper child there, and answers the lower children that
-// are left.
-#[cycle(laying)]
-fn push_merged<'t>(
-    alloc: Global,
-    upper: &Child,
-    lower: &'t [Child],
-    children: &mut Vec<Child>,
-) -> Result<&'t [Child], OverlayFault>
-    requires { are_sound (nodes_of lower.now) ≡ true }
-    ensures { MatchResult result
-        (λ rest. IsMerged (named_of upper.now).0 (named_of upper.now).1 (nodes_of children.old.items) (nodes_of children.new.items) (nodes_of lower.now)
-        (nodes_of rest.now))
-        (λ fault. IfBadOp fault ((more : Children) →
-        laid_under (nodes_of lower.now) (child (named_of upper.now).0 (named_of upper.now).1 more) ≡ None)) }
-{
-    let name = upper.name.text();
-    let rest = push_before(alloc, children, lower, name)?;
-    let laid = lay(alloc, &upper.tree, first_named(rest, name))?;
-    push_laid(alloc, children, &upper.name, laid)?;
-    Ok(behind(rest, name))
-}
-
 // The value of the upper tree, or that of the lower one where it has none.
-fn value_over(
-    alloc: Global,
-    upper: &Tree,
-    lower: Option<&Tree>,
-) -> Result<Option<Text>, OutOfMemory>
+fn value_over<'a>(
+    upper: &Tree<'a>,
+    lower: Option<&Tree<'a>>,
+) -> Result<Option<Text<'a>>, OutOfMemory>
     ensures { IfOk result (λ value. value ≡ value_over_value (value_of_node (node_of upper.now)) (lower_value (node_if lower.entry))) }
 {
     match &upper.value {
-        Some(text) => Ok(Some(Text::of(alloc, text.as_str())?)),
+        Some(text) => Ok(Some(text.copy()?)),
         None => match value_of(lower) {
-            Some(text) => Ok(Some(Text::of(alloc, text.as_str())?)),
+            Some(text) => Ok(Some(text.copy()?)),
             None => Ok(None),
         },
     }
 }
 
 // The lower tree with the result of an operation as its value.
-fn operated(
+fn operated<'a>(
     alloc: Global,
     operation: Operation,
-    upper: &Tree,
-    lower: Option<&Tree>,
-) -> Result<Tree, OverlayFault>
+    upper: &Tree<'a>,
+    lower: Option<&Tree<'a>>,
+) -> Result<Tree<'a>, OverlayFault>
     ensures bad { value_by (function_of operation) (lower_value (node_if lower.entry)) (value_of_node (node_of upper.now)) ≡ None
         → result ≡ Err OverlayFault.BadOp }
     ensures value { let value = value_by (function_of operation) (lower_value (node_if lower.entry)) (value_of_node (node_of upper.now)) in
@@ -158,7 +154,11 @@ fn operated(
 }
 
 // The lower tree with the words of both as its value.
-fn listed(alloc: Global, upper: &Tree, lower: Option<&Tree>) -> Result<Tree, OutOfMemory>
+fn listed<'a>(
+    alloc: Global,
+    upper: &Tree<'a>,
+    lower: Option<&Tree<'a>>,
+) -> Result<Tree<'a>, OutOfMemory>
     ensures { IfOk result (λ tree. node_of tree ≡
         node (Some (words_over_words (value_of_node (node_of upper.now)) (lower_value (node_if lower.entry)))) None (lower_children (node_if lower.entry))) }
 {

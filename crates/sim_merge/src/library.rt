@@ -11,12 +11,12 @@ use std::marker::Model;
 /// Templates by number, which is their place in the list that they were read from: at most 256, each with its name and
 /// its resolved tree.
 #[derive(Drop)]
-pub struct Library {
+pub struct Library<'a> {
     names: IndexSet<String>,
-    trees: Vec<Tree>,
+    trees: Vec<Tree<'a>>,
 }
 
-impl Model for Library {
+impl<'a> Model for Library<'a> {
     ghost use Rattle.{sim_tree.specs.Trees.node_of, std.specs.Prelude.map, std.specs.Prelude.string_bytes};
     ghost use Rattle.sim_merge.specs.Libraries.{Holding, holding_code, IsLibrary};
 
@@ -29,11 +29,11 @@ impl Model for Library {
     ghost invariant = { λ l. IsLibrary (map string_bytes l.names.keys) (map node_of l.trees.items) };
 }
 
-impl Library {
+impl<'a> Library<'a> {
     // The library of these names and trees.
-    pub(crate) fn of(names: IndexSet<String>, trees: Vec<Tree>) -> Library
+    pub(crate) fn of(names: IndexSet<String>, trees: Vec<Tree<'a>>) -> Library<'a>
         requires { IsLibrary (map string_bytes names.keys) (map node_of trees.items) }
-        ensures { result ≡ record { names = map string_bytes names.keys; roots = map node_of trees.items } }
+        ensures { result ≡ record { names = map string_bytes names.keys; roots = map node_of trees.entry.items } }
     {
         Library { names, trees }
     }
@@ -55,7 +55,7 @@ impl Library {
     }
 
     /// The resolved tree of the template of this number.
-    pub fn tree(&self, number: u16) -> &Tree
+    pub fn tree(&self, number: u16) -> &Tree<'a>
         requires { number < length self.now.names }
         ensures root { Some (node_of result.now) ≡ slice_get self.now.roots number }
         ensures resolved { IsTrue (is_resolved (node_of result.now)) }

@@ -6,22 +6,28 @@ ghost use Rattle.sim_merge.specs.Laying.{before, behind as nodes_behind, followe
 ghost use Rattle.sim_merge.specs.Merging.{is_sound_if, IsPast, laying_of, node_if};
 ghost use Rattle.sim_tree.specs.Trees.{are_sound, child, child_named, Children, is_before, named_of, no_children, node_of, nodes_of};
 
-use sim_base::{Name, OutOfMemory};
-use sim_tree::{Child, Text, Tree, copy_name};
+use sim_base::OutOfMemory;
+use sim_tree::{Child, Text, Tree};
 use std::alloc::Global;
 
 /// The children of a tree, and none where there is no tree.
-pub fn children_of(tree: Option<&Tree>) -> &[Child]
+pub fn children_of<'t, 'a>(tree: Option<&'t Tree<'a>>) -> &'t [Child<'a>]
     ensures { nodes_of result.now ≡ lower_children (node_if tree.entry) }
 {
     match tree {
         Some(tree) => tree.children.as_slice(),
-        None => &[],
+        None => no_child(),
     }
 }
 
+fn no_child<'t, 'a>() -> &'t [Child<'a>]
+    ensures { result.now ≡ [] }
+{
+    &[]
+}
+
 /// The value of a tree, if there is a tree and it has one.
-pub fn value_of(tree: Option<&Tree>) -> Option<&Text>
+pub fn value_of<'t, 'a>(tree: Option<&'t Tree<'a>>) -> Option<&'t Text<'a>>
     ensures { option_copied result ≡ lower_value (node_if tree.entry) }
 {
     match tree {
@@ -31,7 +37,7 @@ pub fn value_of(tree: Option<&Tree>) -> Option<&Text>
 }
 
 /// Copies of children.
-pub fn copies(alloc: Global, children: &[Child]) -> Result<Vec<Child>, OutOfMemory>
+pub fn copies<'a>(alloc: Global, children: &[Child<'a>]) -> Result<Vec<Child<'a>>, OutOfMemory>
     ensures { IfOk result (λ copied. nodes_of copied.items ≡ nodes_of children.now) }
 {
     let mut copied = Vec::new(alloc);
@@ -40,10 +46,10 @@ pub fn copies(alloc: Global, children: &[Child]) -> Result<Vec<Child>, OutOfMemo
 }
 
 /// Adds copies of children.
-pub fn push_copies(
+pub fn push_copies<'a>(
     alloc: Global,
-    out: &mut Vec<Child>,
-    children: &[Child],
+    out: &mut Vec<Child<'a>>,
+    children: &[Child<'a>],
 ) -> Result<(), OutOfMemory>
     ensures { OnOk result (nodes_of out.new.items ≡ followed_by (nodes_of out.old.items) (nodes_of children.now)) }
 {
@@ -53,38 +59,40 @@ pub fn push_copies(
     Ok(())
 }
 
-fn push_copy(alloc: Global, out: &mut Vec<Child>, child: &Child) -> Result<(), OutOfMemory>
+fn push_copy<'a>(
+    alloc: Global,
+    out: &mut Vec<Child<'a>>,
+    child: &Child<'a>,
+) -> Result<(), OutOfMemory>
     ensures { OnOk result (nodes_of out.new.items ≡ followed_by (nodes_of out.old.items) (nodes_of (child.now ∷ []))) }
 {
-    push_child(alloc, out, &child.name, child.tree.copy(alloc)?)
+    push_child(out, &child.name, child.tree.copy(alloc)?)
 }
 
-fn push_child(
-    alloc: Global,
-    out: &mut Vec<Child>,
-    name: &Name,
-    tree: Tree,
+fn push_child<'a>(
+    out: &mut Vec<Child<'a>>,
+    name: &Text<'a>,
+    tree: Tree<'a>,
 ) -> Result<(), OutOfMemory>
-    ensures { OnOk result (nodes_of out.new.items ≡ followed_by (nodes_of out.old.items) (child name.now (node_of tree) no_children)) }
+    ensures { OnOk result (nodes_of out.new.items ≡ followed_by (nodes_of out.old.items) (child name.now (node_of tree.entry) no_children)) }
 {
-    let name = copy_name(alloc, name)?;
+    let name = name.copy()?;
     out.push(Child { name, tree })?;
     Ok(())
 }
 
 /// Adds a tree under a name, if there is a tree.
-pub fn push_laid(
-    alloc: Global,
-    out: &mut Vec<Child>,
-    name: &Name,
-    tree: Option<Tree>,
+pub fn push_laid<'a>(
+    out: &mut Vec<Child<'a>>,
+    name: &Text<'a>,
+    tree: Option<Tree<'a>>,
 ) -> Result<(), OutOfMemory>
     ensures { OnOk result ((more : Option Children) →
-        with_lower (nodes_of out.old.items) (with_laid name.now (laying_of tree) more) ≡ with_lower (nodes_of out.new.items) more) }
+        with_lower (nodes_of out.old.items) (with_laid name.now (laying_of tree.entry) more) ≡ with_lower (nodes_of out.new.items) more) }
 {
     match tree {
         Some(tree) => {
-            push_child(alloc, out, name, tree)?;
+            push_child(out, name, tree)?;
             Ok(())
         }
         None => Ok(()),
@@ -92,26 +100,26 @@ pub fn push_laid(
 }
 
 // The child's name stands before this one.
-fn precedes(child: &Child, name: &str) -> bool
+fn precedes(child: &Child<'_>, name: &str) -> bool
     ensures { result ≡ is_before (named_of child.now).0 name.now }
 {
-    child.name.text() < name
+    child.name.as_str() < name
 }
 
 // The child has this name.
-fn is_named(child: &Child, name: &str) -> bool
+fn is_named(child: &Child<'_>, name: &str) -> bool
     ensures { result ≡ bytes_eq (named_of child.now).0 name.now }
 {
-    child.name.text() == name
+    child.name.as_str() == name
 }
 
 /// Adds copies of the children before a name, and answers the others.
-pub fn push_before<'t>(
+pub fn push_before<'t, 'a>(
     alloc: Global,
-    out: &mut Vec<Child>,
-    children: &'t [Child],
+    out: &mut Vec<Child<'a>>,
+    children: &'t [Child<'a>],
     name: &str,
-) -> Result<&'t [Child], OutOfMemory>
+) -> Result<&'t [Child<'a>], OutOfMemory>
     requires { are_sound (nodes_of children.now) ≡ true }
     ensures { IfOk result (λ rest.
         IsPast name.now (nodes_of out.old.items) (nodes_of out.new.items) (nodes_of children.now) (nodes_of rest.now)) }
@@ -126,7 +134,7 @@ pub fn push_before<'t>(
 }
 
 /// The tree of the first child, if that child has the name.
-pub fn first_named<'t>(children: &'t [Child], name: &str) -> Option<&'t Tree>
+pub fn first_named<'t, 'a>(children: &'t [Child<'a>], name: &str) -> Option<&'t Tree<'a>>
     requires sound { are_sound (nodes_of children.now) ≡ true }
     requires none_before { before name.now (nodes_of children.now) ≡ no_children }
     ensures named { node_if result ≡ child_named name.now (nodes_of children.now) }
@@ -145,7 +153,7 @@ pub fn first_named<'t>(children: &'t [Child], name: &str) -> Option<&'t Tree>
 }
 
 /// The children without the first one, if that has the name.
-pub fn behind<'t>(children: &'t [Child], name: &str) -> &'t [Child]
+pub fn behind<'t, 'a>(children: &'t [Child<'a>], name: &str) -> &'t [Child<'a>]
     requires sound { are_sound (nodes_of children.now) ≡ true }
     requires none_before { before name.now (nodes_of children.now) ≡ no_children }
     ensures rest { nodes_of result.now ≡ nodes_behind name.now (nodes_of children.now) }

@@ -17,12 +17,12 @@ pub enum Operation {
 }
 
 /// The result of an operation on two values, where both are there.
-pub fn operated_value(
+pub fn operated_value<'a>(
     alloc: Global,
     operation: Operation,
-    lower: Option<&Text>,
-    upper: Option<&Text>,
-) -> Result<Text, OverlayFault>
+    lower: Option<&Text<'_>>,
+    upper: Option<&Text<'_>>,
+) -> Result<Text<'a>, OverlayFault>
     ensures bad { value_by (function_of operation) (option_copied lower.entry) (option_copied upper.entry) ≡ None → result ≡ Err OverlayFault.BadOp }
     ensures value { MatchResult result
         (λ text. value_by (function_of operation) (option_copied lower.entry) (option_copied upper.entry) ≡ Some text)
@@ -38,12 +38,12 @@ pub fn operated_value(
 }
 
 // The printed result of an operation on the numbers that two texts spell.
-fn operate(
+fn operate<'a>(
     alloc: Global,
     operation: Operation,
     lower: &str,
     upper: &str,
-) -> Result<Text, OverlayFault>
+) -> Result<Text<'a>, OverlayFault>
     ensures bad { text_by (function_of operation) lower.now upper.now ≡ None → result ≡ Err OverlayFault.BadOp }
     ensures value { MatchResult result
         (λ text. text_by (function_of operation) lower.now upper.now ≡ Some text)
@@ -67,7 +67,7 @@ fn number_of(operation: Operation, lower: &str, upper: &str) -> Option<Fixed>
     }
 }
 
-fn printed(alloc: Global, number: Fixed) -> Result<Text, OutOfMemory>
+fn printed<'a>(alloc: Global, number: Fixed) -> Result<Text<'a>, OutOfMemory>
     ensures { IfOk result (λ text. text ≡ text_of number) }
 {
     let mut text = String::new(alloc);

@@ -13,9 +13,9 @@ use sim_base::OutOfMemory;
 use sim_tree::{Source, Tree};
 use std::alloc::Global;
 
-impl Library {
+impl<'a> Library<'a> {
     /// The templates of these sources with all that they inherit, or the first one that has no resolved tree.
-    pub fn resolve(alloc: Global, sources: &[Source]) -> Result<Library, MergeFault>
+    pub fn resolve(alloc: Global, sources: &[Source<'a>]) -> Result<Library<'a>, MergeFault>
         requires few { length sources.now ≤ 256 }
         requires distinct { IsTrue (are_distinct (names_in (origins_of sources.now))) }
         requires layable { IsTrue (list_all is_layable (roots_in (origins_of sources.now))) }
@@ -32,11 +32,11 @@ impl Library {
 }
 
 // The resolved tree of each template, in order.
-fn trees_of(
+fn trees_of<'a>(
     alloc: Global,
-    sources: &[Source],
+    sources: &[Source<'a>],
     parents: &[Option<usize>],
-) -> Result<Vec<Tree>, MergeFault>
+) -> Result<Vec<Tree<'a>>, MergeFault>
     requires few { length parents.now ≤ 256 }
     requires forest { IsForest parents.now }
     requires same { length sources.now ≡ length parents.now }
@@ -53,7 +53,7 @@ fn trees_of(
     Ok(taken(alloc, kept)?)
 }
 
-fn nothing_kept(alloc: Global, count: usize) -> Result<Vec<Option<Tree>>, OutOfMemory>
+fn nothing_kept<'a>(alloc: Global, count: usize) -> Result<Vec<Option<Tree<'a>>>, OutOfMemory>
     ensures { IfOk result (λ kept. kept.items ≡ replicate count None) }
 {
     let mut kept = Vec::new(alloc);
@@ -64,8 +64,8 @@ fn nothing_kept(alloc: Global, count: usize) -> Result<Vec<Option<Tree>>, OutOfM
 }
 
 // The trees that were kept.
-fn taken(alloc: Global, kept: Vec<Option<Tree>>) -> Result<Vec<Tree>, OutOfMemory>
-    ensures { IfOk result (λ trees. trees.items ≡ filter_map (λ slot. slot) kept.items) }
+fn taken<'a>(alloc: Global, kept: Vec<Option<Tree<'a>>>) -> Result<Vec<Tree<'a>>, OutOfMemory>
+    ensures { IfOk result (λ trees. trees.items ≡ filter_map (λ slot. slot) kept.entry.items) }
 {
     let mut trees = Vec::new(alloc);
     for slot in kept {
@@ -75,8 +75,8 @@ fn taken(alloc: Global, kept: Vec<Option<Tree>>) -> Result<Vec<Tree>, OutOfMemor
 }
 
 // Adds a tree, if there is one.
-fn push_if(trees: &mut Vec<Tree>, slot: Option<Tree>) -> Result<(), OutOfMemory>
-    ensures { OnOk result (trees.new.items ≡ trees.old.items ++ cons_option slot []) }
+fn push_if<'a>(trees: &mut Vec<Tree<'a>>, slot: Option<Tree<'a>>) -> Result<(), OutOfMemory>
+    ensures { OnOk result (trees.new.items ≡ trees.old.items ++ cons_option slot.entry []) }
 {
     match slot {
         Some(tree) => {
@@ -88,11 +88,11 @@ fn push_if(trees: &mut Vec<Tree>, slot: Option<Tree>) -> Result<(), OutOfMemory>
 }
 
 // Resolves a template, or refuses it by its number.
-fn keep_or_refuse(
+fn keep_or_refuse<'a>(
     alloc: Global,
-    sources: &[Source],
+    sources: &[Source<'a>],
     parents: &[Option<usize>],
-    kept: &mut Vec<Option<Tree>>,
+    kept: &mut Vec<Option<Tree<'a>>>,
     number: usize,
 ) -> Result<(), MergeFault>
     requires few { length parents.now ≤ 256 }
@@ -118,11 +118,11 @@ fn keep_or_refuse(
 
 // Resolves a template and all that it inherits, unless that is done, and keeps the results.
 #[cycle(keeping)]
-fn keep(
+fn keep<'a>(
     alloc: Global,
-    sources: &[Source],
+    sources: &[Source<'a>],
     parents: &[Option<usize>],
-    kept: &mut Vec<Option<Tree>>,
+    kept: &mut Vec<Option<Tree<'a>>>,
     number: usize,
 ) -> Result<(), OverlayFault>
     requires number { number < length parents.now }
@@ -144,7 +144,7 @@ fn keep(
     Ok(())
 }
 
-fn has(kept: &[Option<Tree>], number: usize) -> bool
+fn has(kept: &[Option<Tree<'_>>], number: usize) -> bool
     requires { number < length kept.now }
     ensures { IsTrue result → Has kept.now number }
 {
@@ -156,13 +156,13 @@ fn has(kept: &[Option<Tree>], number: usize) -> bool
 
 // The tree of a template, after all that it inherits was resolved and kept.
 #[cycle(keeping)]
-fn resolved(
+fn resolved<'a>(
     alloc: Global,
-    sources: &[Source],
+    sources: &[Source<'a>],
     parents: &[Option<usize>],
-    kept: &mut Vec<Option<Tree>>,
+    kept: &mut Vec<Option<Tree<'a>>>,
     number: usize,
-) -> Result<Tree, OverlayFault>
+) -> Result<Tree<'a>, OverlayFault>
     requires number { number < length parents.now }
     requires forest { IsForest parents.now }
     requires same { length sources.now ≡ length parents.now }
@@ -182,12 +182,12 @@ fn resolved(
 }
 
 // The tree of a template without a parent.
-fn over_nothing(
+fn over_nothing<'a>(
     alloc: Global,
-    sources: &[Source],
+    sources: &[Source<'a>],
     parents: &[Option<usize>],
     number: usize,
-) -> Result<Tree, OverlayFault>
+) -> Result<Tree<'a>, OverlayFault>
     requires number { number < length sources.now }
     requires layable { list_all is_layable (roots_in (origins_of sources.now)) ≡ true }
     requires first { slice_index_or parents.now number None ≡ None }
@@ -197,14 +197,14 @@ fn over_nothing(
 }
 
 // The tree of a template whose parent's tree is kept.
-fn over_parent(
+fn over_parent<'a>(
     alloc: Global,
-    sources: &[Source],
+    sources: &[Source<'a>],
     parents: &[Option<usize>],
-    kept: &[Option<Tree>],
+    kept: &[Option<Tree<'a>>],
     number: usize,
     parent: usize,
-) -> Result<Tree, OverlayFault>
+) -> Result<Tree<'a>, OverlayFault>
     requires number { number < length sources.now }
     requires layable { list_all is_layable (roots_in (origins_of sources.now)) ≡ true }
     requires parent { slice_index_or parents.now number None ≡ Some parent }
@@ -218,7 +218,7 @@ fn over_parent(
 }
 
 // The tree that a template has by itself.
-fn own_at(sources: &[Source], number: usize) -> &Tree
+fn own_at<'t, 'a>(sources: &'t [Source<'a>], number: usize) -> &'t Tree<'a>
     requires number { number < length sources.now }
     requires layable { list_all is_layable (roots_in (origins_of sources.now)) ≡ true }
     ensures own { slice_get (roots_in (origins_of sources.now)) number ≡ Some (node_of result.now) }
@@ -228,7 +228,7 @@ fn own_at(sources: &[Source], number: usize) -> &Tree
 }
 
 // The tree that is kept for a template.
-fn tree_at(kept: &[Option<Tree>], number: usize) -> &Tree
+fn tree_at<'t, 'a>(kept: &'t [Option<Tree<'a>>], number: usize) -> &'t Tree<'a>
     requires number { number < length kept.now }
     requires has { Has kept.now number }
     ensures { slice_index_or kept.now number None ≡ Some result.now }
@@ -240,7 +240,7 @@ fn tree_at(kept: &[Option<Tree>], number: usize) -> &Tree
 }
 
 // A node with nothing to it.
-fn bare(alloc: Global) -> Tree
+fn bare<'a>(alloc: Global) -> Tree<'a>
     ensures { node_of result ≡ bare_node }
 {
     Tree {

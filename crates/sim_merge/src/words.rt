@@ -18,19 +18,19 @@ use std::collections::BTreeSet;
 
 // What the words of an upper list do to a lower one.
 #[derive(Drop)]
-struct Changes {
+struct Changes<'a> {
     // The words that it adds and does not take away further on, the last one first.
-    added: Names,
+    added: Names<'a>,
     // The words that it takes away.
     removed: BTreeSet<String>,
 }
 
 /// The words of the lower value, after each word of the upper value added or took away words.
-pub fn words_over(
+pub fn words_over<'a>(
     alloc: Global,
-    upper: Option<&Text>,
-    lower: Option<&Text>,
-) -> Result<Text, OutOfMemory>
+    upper: Option<&Text<'_>>,
+    lower: Option<&Text<'_>>,
+) -> Result<Text<'a>, OutOfMemory>
     ensures { IfOk result (λ text. text ≡ words_over_words (option_copied upper.entry) (option_copied lower.entry)) }
 {
     let changes = changes_of(alloc, words_in(alloc, upper)?)?;
@@ -40,7 +40,7 @@ pub fn words_over(
 }
 
 // The words of a value, and none where there is no value.
-fn words_in(alloc: Global, value: Option<&Text>) -> Result<Names, OutOfMemory>
+fn words_in<'t>(alloc: Global, value: Option<&'t Text<'_>>) -> Result<Names<'t>, OutOfMemory>
     ensures { IfOk result (λ words. words ≡ words_of_value (option_copied value.entry)) }
 {
     match value {
@@ -49,8 +49,8 @@ fn words_in(alloc: Global, value: Option<&Text>) -> Result<Names, OutOfMemory>
     }
 }
 
-fn changes_of(alloc: Global, upper: Names) -> Result<Changes, OutOfMemory>
-    ensures { IfOk result (λ changes. AreChanges changes.added (contains_text changes.removed) upper) }
+fn changes_of<'t>(alloc: Global, upper: Names<'t>) -> Result<Changes<'t>, OutOfMemory>
+    ensures { IfOk result (λ changes. AreChanges changes.added (contains_text changes.removed) upper.entry) }
 {
     let mut words = upper.into_items();
     let mut changes = Changes {
@@ -64,10 +64,14 @@ fn changes_of(alloc: Global, upper: Names) -> Result<Changes, OutOfMemory>
 }
 
 // Takes in the word that stands before those that were taken in.
-fn put_before(alloc: Global, changes: &mut Changes, word: Text) -> Result<(), OutOfMemory>
+fn put_before<'t>(
+    alloc: Global,
+    changes: &mut Changes<'t>,
+    word: Text<'t>,
+) -> Result<(), OutOfMemory>
     ensures { OnOk result ((later : List (List ℕ)) →
         AreChanges changes.old.added (contains_text changes.old.removed) later →
-        AreChanges changes.new.added (contains_text changes.new.removed) (word ∷ later)) }
+        AreChanges changes.new.added (contains_text changes.new.removed) (word.entry ∷ later)) }
 {
     match removed_by(word.as_str()) {
         Some(other) => add_word(alloc, &mut changes.removed, other)?,
@@ -90,8 +94,8 @@ fn removed_by(word: &str) -> Option<&str>
     }
 }
 
-fn leaving_out(found: Names, removed: &BTreeSet<String>) -> Names
-    ensures { result ≡ filter (λ word. not (contains_text removed.now word)) found }
+fn leaving_out<'t>(found: Names<'t>, removed: &BTreeSet<String>) -> Names<'t>
+    ensures { result ≡ filter (λ word. not (contains_text removed.now word)) found.entry }
 {
     let mut words = found.into_items();
     words.retain(|word| !removed.contains(word.as_str()));
@@ -99,8 +103,12 @@ fn leaving_out(found: Names, removed: &BTreeSet<String>) -> Names
 }
 
 // A list with each word that it lacks, from the last one to the first.
-fn with_added(alloc: Global, lower: Names, added: Names) -> Result<Names, OutOfMemory>
-    ensures { IfOk result (λ words. words ≡ fold with_added_word lower (reverse added)) }
+fn with_added<'t>(
+    alloc: Global,
+    lower: Names<'t>,
+    added: Names<'t>,
+) -> Result<Names<'t>, OutOfMemory>
+    ensures { IfOk result (λ words. words ≡ fold with_added_word lower.entry (reverse added.entry)) }
 {
     let mut lacking = set_of(alloc, added.as_slice())?;
     take_words(&mut lacking, lower.as_slice());
@@ -113,10 +121,14 @@ fn with_added(alloc: Global, lower: Names, added: Names) -> Result<Names, OutOfM
 }
 
 // Adds a word at the end of a list that lacks it, where the set has what the list lacks of this word and those to come.
-fn include(found: &mut Names, lacking: &mut BTreeSet<String>, word: Text) -> Result<(), OutOfMemory>
-    ensures found { OnOk result ((more : List (List ℕ)) → TellsLacking (contains_text lacking.old) (more ++ word ∷ []) found.old
-        → found.new ≡ including word found.old) }
-    ensures lacking { OnOk result ((more : List (List ℕ)) → TellsLacking (contains_text lacking.old) (more ++ word ∷ []) found.old
+fn include<'t>(
+    found: &mut Names<'t>,
+    lacking: &mut BTreeSet<String>,
+    word: Text<'t>,
+) -> Result<(), OutOfMemory>
+    ensures found { OnOk result ((more : List (List ℕ)) → TellsLacking (contains_text lacking.old) (more ++ word.entry ∷ []) found.old
+        → found.new ≡ including word.entry found.old) }
+    ensures lacking { OnOk result ((more : List (List ℕ)) → TellsLacking (contains_text lacking.old) (more ++ word.entry ∷ []) found.old
         → TellsLacking (contains_text lacking.new) more found.new) }
 {
     if take_word(lacking, word.as_str()) {
@@ -126,7 +138,7 @@ fn include(found: &mut Names, lacking: &mut BTreeSet<String>, word: Text) -> Res
 }
 
 // Takes these words out of a set.
-fn take_words(set: &mut BTreeSet<String>, words: &[Text])
+fn take_words(set: &mut BTreeSet<String>, words: &[Text<'_>])
     ensures { (other : List ℕ) → contains_text set.new other ≡ (contains_text set.old other && not (list_any (bytes_eq other) words.now)) }
 {
     let mut rest = words;
@@ -144,7 +156,7 @@ fn take_word(set: &mut BTreeSet<String>, word: &str) -> bool
     set.remove(word)
 }
 
-fn set_of(alloc: Global, words: &[Text]) -> Result<BTreeSet<String>, OutOfMemory>
+fn set_of(alloc: Global, words: &[Text<'_>]) -> Result<BTreeSet<String>, OutOfMemory>
     ensures { IfOk result (λ set. TellsWords (contains_text set) words.now) }
 {
     let mut set = BTreeSet::new(alloc);
@@ -162,7 +174,7 @@ fn add_word(alloc: Global, set: &mut BTreeSet<String>, word: &str) -> Result<(),
 }
 
 // The words with single spaces between them.
-fn joined(alloc: Global, words: &[Text]) -> Result<Text, OutOfMemory>
+fn joined<'a>(alloc: Global, words: &[Text<'_>]) -> Result<Text<'a>, OutOfMemory>
     ensures { IfOk result (λ text. text ≡ join_with_byte 0x20 words.now) }
 {
     let mut text = String::new(alloc);

@@ -1,27 +1,57 @@
-use Rattle.sim_merge.proofs.Common.{lower_children, Node, node_if, node_of, nodes_of, out-Child, refused, rules, subst, sym, ◌∙◌}
-use Rattle.sim_merge.proofs.Common.{◌≡◌, ℕ, List, refl, ap, behind, child_named, IfBadOp, IsMerged, IsPast, laid, laid_under, laid_unmarked, laying_of}
-use Rattle.sim_merge.proofs.LayingLemmas.{IfBadOp-weaker, merged-step, unmarked-refused, unmarked-there}
-use Rattle.sim_merge.proofs.NodeLemmas.{named_of-out}
+use Rattle.sim_merge.proofs.Common.{laying_of, lower_children, node_if, node_of, nodes_of, out-Child, refused, rules, subst, sym, with_lower, ◌∙◌}
+use Rattle.sim_merge.proofs.Common.{◌≡◌, ℕ, ◌+◌, List, drop, None, refl, ap, behind, child_named, IfBadOp, IsPast, laid, laid_under, laid_unmarked}
+use Rattle.sim_merge.proofs.LayingLemmas.{IfBadOp-weaker, merged-step, refused-step, unmarked-refused, unmarked-there}
+use Rattle.sim_merge.proofs.NodeLemmas.{named_of-out, nodes_of-child}
 use Rattle.sim_merge.proofs.laying.+laying.Goals as goal
 
-pub push_merged-returns : goal.push_merged-returns
-push_merged-returns t c =
-    let upper = c.args.upper.now in
-    let name = (out-Child upper).name in
-    let n = node_of (out-Child upper).tree in
-    let old = nodes_of c.args.children.now.items in
+pub merged-loop-child-preserved : goal.merged-loop-child-preserved
+merged-loop-child-preserved t c =
+    let xs = c.args.upper.now in
+    let x = c.child-item.result in
+    let i = c.loop-child.child-index in
+    let name = (out-Child x).name in
+    let n = node_of (out-Child x).tree in
+    let old = nodes_of c.loop-child.children.items in
     let pushed = nodes_of c.push_before.new.out.items in
     let new = nodes_of c.push_laid.new.out.items in
-    let lower = nodes_of c.args.lower.now in
+    let lower = nodes_of c.loop-child.rest.now in
     let rest = nodes_of c.in_ok-rest.rest.now in
     let left = nodes_of c.behind.result.now in
-    let PastAt : List ℕ → Type 0 = λ x. IsPast x old pushed lower rest in
-    let past : IsPast name old pushed lower rest = subst PastAt c.text-name.ensures.bytes c.in_ok-rest.ensures in
-    let MergedAt : List ℕ × Node → Type 0 = λ p. IsMerged p.0 p.1 old new lower left in
-    subst MergedAt (sym (named_of-out upper))
-    (merged-step name n old pushed new lower rest left (laying_of c.in_ok-laid.laid) past
-    (ap (λ x. laid (child_named x rest) n) (sym c.text-name.ensures.bytes) ∙ ap (λ b. laid b n) (sym c.first_named.ensures.named) ∙ c.in_ok-laid.ensures.laid)
-    c.in_ok-push_laid.ensures (c.behind.ensures.rest ∙ ap (λ x. behind x rest) c.text-name.ensures.bytes) c.behind.ensures.sound)
+    let same = c.as_str-name.ensures in
+    let PastAt : List ℕ → Type 0 = λ y. IsPast y old pushed lower rest in
+    let past : IsPast name old pushed lower rest = subst PastAt same c.in_ok-rest.ensures in
+    let step = merged-step name n old pushed new lower rest left (laying_of c.in_ok-laid.laid) past
+    (ap (λ y. laid (child_named y rest) n) (sym same) ∙ ap (λ b. laid b n) (sym c.first_named.ensures.named) ∙ c.in_ok-laid.ensures.laid)
+    c.in_ok-push_laid.ensures (c.behind.ensures.rest ∙ ap (λ y. behind y rest) same) (nodes_of (drop (i + 1) xs)) in
+    record {
+      merged = sym step ∙ ap (λ cs. with_lower old (laid_under lower cs)) (sym (nodes_of-child xs i x c.loop-child-test.true c.child-item.is))
+          ∙ c.loop-child.invariant.merged;
+      sound = c.behind.ensures.sound;
+    }
+
+pub merged-returns-in_err-laid : goal.merged-returns-in_err-laid
+merged-returns-in_err-laid t c =
+    let xs = c.args.upper.now in
+    let x = c.child-item.result in
+    let i = c.loop-child.child-index in
+    let name = (out-Child x).name in
+    let n = node_of (out-Child x).tree in
+    let old = nodes_of c.loop-child.children.items in
+    let pushed = nodes_of c.push_before.new.out.items in
+    let lower = nodes_of c.loop-child.rest.now in
+    let rest = nodes_of c.in_ok-rest.rest.now in
+    let same = c.as_str-name.ensures in
+    let fault = c.in_err-laid.field-0.0 in
+    let PastAt : List ℕ → Type 0 = λ y. IsPast y old pushed lower rest in
+    let past : IsPast name old pushed lower rest = subst PastAt same c.in_ok-rest.ensures in
+    let told : IfBadOp fault (laid_under (nodes_of c.args.lower.now) (nodes_of xs) ≡ None) =
+    IfBadOp-weaker fault _ _
+    (λ e. sym c.loop-child.invariant.merged
+    ∙ ap (λ cs. with_lower old (laid_under lower cs)) (nodes_of-child xs i x c.loop-child-test.true c.child-item.is)
+    ∙ ap (with_lower old) (refused-step name n old pushed lower rest past
+    (ap (λ y. laid (child_named y rest) n) (sym same) ∙ ap (λ b. laid b n) (sym c.first_named.ensures.named) ∙ e) (nodes_of (drop (i + 1) xs))))
+    c.in_err-laid.ensures.laid in
+    search rules
 
 pub unmarked-returns-in_err-children : goal.unmarked-returns-in_err-children
 unmarked-returns-in_err-children t c =
