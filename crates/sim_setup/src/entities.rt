@@ -27,7 +27,7 @@ pub fn entities_in(value: &Value) -> Option<&[Value]>
 /// The entities, or the refusal of the first item that is none.
 pub fn firsts_from(
     alloc: Global,
-    library: &Library,
+    library: &Library<'_>,
     land: &Land,
     players: u8,
     items: &[Value],
@@ -47,7 +47,7 @@ pub fn firsts_from(
 }
 
 #[tactic(auto, unfolding(crate::specs::Entities::first_of))]
-fn first_of(library: &Library, land: &Land, players: u8, item: &Value) -> Option<First>
+fn first_of(library: &Library<'_>, land: &Land, players: u8, item: &Value) -> Option<First>
     ensures { result ≡ first_of_data library.now.names land.now players (view item.now) }
 {
     let (name, owner, x, z) = four(list_of(item)?)?;
@@ -62,7 +62,7 @@ fn first_of(library: &Library, land: &Land, players: u8, item: &Value) -> Option
     })
 }
 
-fn number_in(library: &Library, name: &Value) -> Option<u16>
+fn number_in(library: &Library<'_>, name: &Value) -> Option<u16>
     ensures { result ≡ option_and_then (number_of_name library.now.names) (as_str (view name.now)) }
 {
     library.number_of(name.as_str()?)

@@ -85,7 +85,7 @@ fn setup_in(alloc: Global, id: [u8; 16], value: &Value) -> Result<Setup, SetupFa
 fn limits_in(
     alloc: Global,
     id: [u8; 16],
-    sources: &[Source],
+    sources: &[Source<'_>],
     value: &Value,
 ) -> Result<Setup, SetupFault>
     requires { All IsReadySource sources.now }
@@ -121,7 +121,7 @@ fn lists_in(
     alloc: Global,
     land: &Land,
     rules: Rules,
-    sources: &[Source],
+    sources: &[Source<'_>],
     value: &Value,
 ) -> Result<Lists, SetupFault>
     requires players { length land.now.masks ≤ 9 }
@@ -145,7 +145,7 @@ fn items_in(
     alloc: Global,
     land: &Land,
     rules: Rules,
-    sources: &[Source],
+    sources: &[Source<'_>],
     entities: &[Value],
     value: &Value,
 ) -> Result<Lists, SetupFault>

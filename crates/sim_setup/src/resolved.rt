@@ -10,7 +10,7 @@ use sim_tree::Source;
 use std::alloc::Global;
 
 /// The library of these sources, or the refusal of the first that has no resolved tree.
-pub fn resolved(alloc: Global, sources: &[Source]) -> Result<Library, SetupFault>
+pub fn resolved<'a>(alloc: Global, sources: &[Source<'a>]) -> Result<Library<'a>, SetupFault>
     requires few { length sources.now ≤ 256 }
     requires distinct { are_distinct (names_in (origins_of sources.now)) ≡ true }
     requires ready { All IsReadySource sources.now }

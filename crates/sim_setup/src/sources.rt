@@ -17,7 +17,7 @@ use std::alloc::Global;
 const FIRST: usize = 16;
 
 /// The sources of the file, or the refusal of the first item that is none.
-pub fn sources_in(alloc: Global, value: &Value) -> Result<Vec<Source>, SetupFault>
+pub fn sources_in<'a>(alloc: Global, value: &'a Value) -> Result<Vec<Source<'a>>, SetupFault>
     ensures value { SourcesMeet result (sources_in_data (view value.now)) }
     ensures ready { IfOk result (λ sources. All IsReadySource sources.items) }
 {
@@ -27,7 +27,7 @@ pub fn sources_in(alloc: Global, value: &Value) -> Result<Vec<Source>, SetupFaul
     }
 }
 
-fn sources_from(alloc: Global, items: &[Value]) -> Result<Vec<Source>, SetupFault>
+fn sources_from<'a>(alloc: Global, items: &'a [Value]) -> Result<Vec<Source<'a>>, SetupFault>
     ensures value { SourcesMeet result (sources_from_data (map view items.now)) }
     ensures ready { IfOk result (λ sources. All IsReadySource sources.items) }
 {
@@ -55,7 +55,7 @@ fn refused_item(number: usize) -> SetupFault
 }
 
 #[tactic(auto, unfolding(crate::specs::Sources::source_of))]
-fn source_of(alloc: Global, item: &Value) -> Result<Option<Source>, OutOfMemory>
+fn source_of<'a>(alloc: Global, item: &'a Value) -> Result<Option<Source<'a>>, OutOfMemory>
     ensures value { IfOk result (λ source. option_map origin_of source ≡ source_of_data (view item.now)) }
     ensures ready { IfOk result (λ source. IfSome source IsReadySource) }
 {
@@ -63,10 +63,10 @@ fn source_of(alloc: Global, item: &Value) -> Result<Option<Source>, OutOfMemory>
 }
 
 // What is read of an item: every refusal of a tree is one answer.
-fn source_read(read: Result<Source, TreeFault>) -> Result<Option<Source>, OutOfMemory>
-    ensures ok { IfOk read (λ source. result ≡ Ok (Some source)) }
-    ensures refused { IfErr read (λ fault. fault ≢ TreeFault.OutOfMemory → result ≡ Ok None) }
-    ensures memory { IfErr read (λ fault. fault ≡ TreeFault.OutOfMemory → IsErr result) }
+fn source_read<'a>(read: Result<Source<'a>, TreeFault>) -> Result<Option<Source<'a>>, OutOfMemory>
+    ensures ok { IfOk read.entry (λ source. result ≡ Ok (Some source)) }
+    ensures refused { IfErr read.entry (λ fault. fault ≢ TreeFault.OutOfMemory → result ≡ Ok None) }
+    ensures memory { IfErr read.entry (λ fault. fault ≡ TreeFault.OutOfMemory → IsErr result) }
 {
     match read {
         Ok(source) => Ok(Some(source)),
@@ -76,7 +76,7 @@ fn source_read(read: Result<Source, TreeFault>) -> Result<Option<Source>, OutOfM
 }
 
 /// Whether there are at most 256 sources, of which no two have the same name.
-pub fn are_few(sources: &[Source]) -> bool
+pub fn are_few(sources: &[Source<'_>]) -> bool
     ensures { result ≡ (nat_le (length sources.now) 256 && are_distinct (names_in (origins_of sources.now))) }
 {
     sources.len() <= 256 && names_differ(sources)

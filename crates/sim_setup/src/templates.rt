@@ -14,8 +14,8 @@ use std::alloc::Global;
 /// The templates of sources with this library, or the refusal of the first that is none.
 pub fn templates_from(
     alloc: Global,
-    sources: &[Source],
-    library: &Library,
+    sources: &[Source<'_>],
+    library: &Library<'_>,
 ) -> Result<Templates, SetupFault>
     requires few { length sources.now ≤ 256 }
     requires names { library.now.names ≡ names_in (origins_of sources.now) }
@@ -35,8 +35,8 @@ pub fn templates_from(
 #[tactic(auto, unfolding(crate::specs::Templates::template_at))]
 fn template_at(
     alloc: Global,
-    source: &Source,
-    library: &Library,
+    source: &Source<'_>,
+    library: &Library<'_>,
     number: u16,
 ) -> Result<Option<Template>, OutOfMemory>
     requires { number < length library.now.names }

@@ -10,14 +10,14 @@ use sim_base::Fixed;
 use sim_tree::Tree;
 
 /// The text of a child, if it is there and has one.
-pub fn text_at<'t>(part: &'t Tree, name: &str) -> Option<&'t str>
+pub fn text_at<'t>(part: &'t Tree<'_>, name: &str) -> Option<&'t str>
     ensures { option_map (λ text. text.now) result ≡ text_at_node name.now (node_of part.now) }
 {
     text_of(part.child(name)?)
 }
 
 /// The text of a child, or the other one where the child is not there.
-pub fn text_or<'t>(part: &'t Tree, name: &str, absent: &'t str) -> Option<&'t str>
+pub fn text_or<'t>(part: &'t Tree<'_>, name: &str, absent: &'t str) -> Option<&'t str>
     ensures { option_map (λ text. text.now) result ≡ text_or_else absent.now name.now (node_of part.now) }
 {
     match part.child(name) {
@@ -26,7 +26,7 @@ pub fn text_or<'t>(part: &'t Tree, name: &str, absent: &'t str) -> Option<&'t st
     }
 }
 
-fn text_of(tree: &Tree) -> Option<&str>
+fn text_of<'t>(tree: &'t Tree<'_>) -> Option<&'t str>
     ensures { option_map (λ text. text.now) result ≡ value_of (node_of tree.now) }
 {
     match &tree.value {
@@ -36,13 +36,13 @@ fn text_of(tree: &Tree) -> Option<&str>
 }
 
 /// Whether a child that is needed is not there, or one of the others is there without a text.
-pub fn lacks(part: &Tree, needed: &[&str], optional: &[&str]) -> bool
+pub fn lacks(part: &Tree<'_>, needed: &[&str], optional: &[&str]) -> bool
     ensures { result ≡ lacks_text (texts_of needed.now) (texts_of optional.now) (node_of part.now) }
 {
     lacks_needed(part, needed) || lacks_optional(part, optional)
 }
 
-fn lacks_needed(part: &Tree, names: &[&str]) -> bool
+fn lacks_needed(part: &Tree<'_>, names: &[&str]) -> bool
     ensures { result ≡ list_any (λ name. is_none (text_at_node name (node_of part.now))) (texts_of names.now) }
 {
     let mut rest = names;
@@ -55,7 +55,7 @@ fn lacks_needed(part: &Tree, names: &[&str]) -> bool
     false
 }
 
-fn lacks_optional(part: &Tree, names: &[&str]) -> bool
+fn lacks_optional(part: &Tree<'_>, names: &[&str]) -> bool
     ensures { result ≡ list_any (λ name. is_none (text_or_else [] name (node_of part.now))) (texts_of names.now) }
 {
     let mut rest = names;

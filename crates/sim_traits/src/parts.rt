@@ -14,7 +14,7 @@ use sim_base::{Arms, Base, Fixed, Harm, Resist};
 use sim_tree::Tree;
 
 /// The health.
-pub fn health_of(root: &Tree) -> Result<Option<Fixed>, TraitFault>
+pub fn health_of(root: &Tree<'_>) -> Result<Option<Fixed>, TraitFault>
     ensures value { result ≡ part_of health_part health_in_node (node_of root.now) }
     ensures within { IfOk result (λ found. IfSome found (IsRawFrom 1 1048576000)) }
 {
@@ -28,7 +28,7 @@ pub fn health_of(root: &Tree) -> Result<Option<Fixed>, TraitFault>
     Ok(Some(health))
 }
 
-fn health_in(part: &Tree) -> Option<Fixed>
+fn health_in(part: &Tree<'_>) -> Option<Fixed>
     ensures value { result ≡ health_in_node (node_of part.now) }
     ensures within { IfSome result (IsRawFrom 1 1048576000) }
 {
@@ -36,7 +36,7 @@ fn health_in(part: &Tree) -> Option<Fixed>
 }
 
 /// The levels of resistance.
-pub fn resist_of(root: &Tree) -> Result<Option<Resist>, TraitFault>
+pub fn resist_of(root: &Tree<'_>) -> Result<Option<Resist>, TraitFault>
     ensures value { result ≡ part_of resist_part resist_in_node (node_of root.now) }
     ensures within { IfOk result (λ found. IfSome found (λ resist. (resist.hack ≤ 40) × (resist.pierce ≤ 40) × (resist.crush ≤ 40))) }
 {
@@ -50,7 +50,7 @@ pub fn resist_of(root: &Tree) -> Result<Option<Resist>, TraitFault>
     Ok(Some(resist))
 }
 
-fn resist_in(part: &Tree) -> Option<Resist>
+fn resist_in(part: &Tree<'_>) -> Option<Resist>
     ensures value { result ≡ resist_in_node (node_of part.now) }
     ensures within { IfSome result (λ resist. (resist.hack ≤ 40) × (resist.pierce ≤ 40) × (resist.crush ≤ 40)) }
 {
@@ -64,7 +64,7 @@ fn resist_in(part: &Tree) -> Option<Resist>
     })
 }
 
-fn level_in(part: &Tree, name: &str) -> Option<u8>
+fn level_in(part: &Tree<'_>, name: &str) -> Option<u8>
     ensures value { result ≡ level_in_node name.now (node_of part.now) }
     ensures within { IfSome result (λ level. level ≤ 40) }
 {
@@ -73,7 +73,7 @@ fn level_in(part: &Tree, name: &str) -> Option<u8>
 }
 
 /// The speed.
-pub fn speed_of(root: &Tree) -> Result<Option<Fixed>, TraitFault>
+pub fn speed_of(root: &Tree<'_>) -> Result<Option<Fixed>, TraitFault>
     ensures value { result ≡ part_of motion_part speed_in_node (node_of root.now) }
     ensures within { IfOk result (λ found. IfSome found (IsRawFrom 5 6553600)) }
 {
@@ -87,7 +87,7 @@ pub fn speed_of(root: &Tree) -> Result<Option<Fixed>, TraitFault>
     Ok(Some(speed))
 }
 
-fn speed_in(part: &Tree) -> Option<Fixed>
+fn speed_in(part: &Tree<'_>) -> Option<Fixed>
     ensures value { result ≡ speed_in_node (node_of part.now) }
     ensures within { IfSome result (IsRawFrom 5 6553600) }
 {
@@ -95,7 +95,7 @@ fn speed_in(part: &Tree) -> Option<Fixed>
 }
 
 /// The obstruction.
-pub fn base_of(root: &Tree) -> Result<Option<Base>, TraitFault>
+pub fn base_of(root: &Tree<'_>) -> Result<Option<Base>, TraitFault>
     ensures value { result ≡ part_of obstruct_part base_in_node (node_of root.now) }
     ensures within { IfOk result (λ found. IfSome found (λ base. IsFrom 1 16 base.width × IsFrom 1 16 base.depth)) }
 {
@@ -109,7 +109,7 @@ pub fn base_of(root: &Tree) -> Result<Option<Base>, TraitFault>
     Ok(Some(base))
 }
 
-fn base_in(part: &Tree) -> Option<Base>
+fn base_in(part: &Tree<'_>) -> Option<Base>
     ensures value { result ≡ base_in_node (node_of part.now) }
     ensures within { IfSome result (λ base. IsFrom 1 16 base.width × IsFrom 1 16 base.depth) }
 {
@@ -118,7 +118,7 @@ fn base_in(part: &Tree) -> Option<Base>
     Some(Base { width, depth })
 }
 
-fn side_in(part: &Tree, name: &str) -> Option<u8>
+fn side_in(part: &Tree<'_>, name: &str) -> Option<u8>
     ensures value { result ≡ side_in_node name.now (node_of part.now) }
     ensures within { IfSome result (IsFrom 1 16) }
 {
@@ -127,7 +127,7 @@ fn side_in(part: &Tree, name: &str) -> Option<u8>
 }
 
 /// The attack.
-pub fn arms_of(root: &Tree) -> Result<Option<Arms>, TraitFault>
+pub fn arms_of(root: &Tree<'_>) -> Result<Option<Arms>, TraitFault>
     ensures value { result ≡ part_of attack_part arms_in_node (node_of root.now) }
     ensures within { IfOk result (λ found. IfSome found IsArms) }
 {
@@ -143,7 +143,7 @@ pub fn arms_of(root: &Tree) -> Result<Option<Arms>, TraitFault>
     Ok(Some(arms))
 }
 
-fn arms_in(part: &Tree) -> Option<Arms>
+fn arms_in(part: &Tree<'_>) -> Option<Arms>
     ensures value { result ≡ arms_in_node (node_of part.now) }
     ensures within { IfSome result IsArms }
 {
@@ -161,7 +161,7 @@ fn arms_in(part: &Tree) -> Option<Arms>
     })
 }
 
-fn harm_in(part: &Tree) -> Option<Harm>
+fn harm_in(part: &Tree<'_>) -> Option<Harm>
     ensures value { result ≡ harm_in_node (node_of part.now) }
     ensures within { IfSome result (λ harm. IsRawFrom 0 65536000 harm.hack × IsRawFrom 0 65536000 harm.pierce × IsRawFrom 0 65536000 harm.crush) }
 {
@@ -175,28 +175,28 @@ fn harm_in(part: &Tree) -> Option<Harm>
     })
 }
 
-fn damage_in(part: &Tree, name: &str) -> Option<Fixed>
+fn damage_in(part: &Tree<'_>, name: &str) -> Option<Fixed>
     ensures value { result ≡ damage_in_node name.now (node_of part.now) }
     ensures within { IfSome result (IsRawFrom 0 65536000) }
 {
     raw_in(text_or(part, name, "0")?, 0, 65_536_000)
 }
 
-fn distance_in(part: &Tree, name: &str) -> Option<Fixed>
+fn distance_in(part: &Tree<'_>, name: &str) -> Option<Fixed>
     ensures value { result ≡ distance_in_node name.now (node_of part.now) }
     ensures within { IfSome result (IsRawFrom 0 16777216) }
 {
     raw_in(text_at(part, name)?, 0, 16_777_216)
 }
 
-fn repeat_in(part: &Tree) -> Option<u16>
+fn repeat_in(part: &Tree<'_>) -> Option<u16>
     ensures value { result ≡ repeat_in_node (node_of part.now) }
     ensures within { IfSome result (λ repeat. repeat ≤ 1000) }
 {
     whole_in(text_at(part, "Repeat")?, 0, 1000)
 }
 
-fn accuracy_in(part: &Tree) -> Option<u8>
+fn accuracy_in(part: &Tree<'_>) -> Option<u8>
     ensures value { result ≡ accuracy_in_node (node_of part.now) }
     ensures within { IfSome result (λ accuracy. accuracy ≤ 100) }
 {

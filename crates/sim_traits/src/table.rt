@@ -11,18 +11,18 @@ use sim_json::is_among;
 use sim_tree::{Child, Tree};
 
 /// Whether the root has no value, and under it stands nothing that no part has a place for.
-pub fn has_known_parts(root: &Tree) -> bool
+pub fn has_known_parts(root: &Tree<'_>) -> bool
     ensures { result ≡ has_known_parts_data (node_of root.now) }
 {
     root.value.is_none() && are_known(root.children.as_slice())
 }
 
-fn are_known(children: &[Child]) -> bool
+fn are_known(children: &[Child<'_>]) -> bool
     ensures { result ≡ are_known_data (nodes_of children.now) }
 {
     let mut rest = children;
     while let [child, more @ ..] = rest {
-        if !is_known(child.name.text(), &child.tree) {
+        if !is_known(child.name.as_str(), &child.tree) {
             return false;
         }
         rest = more;
@@ -30,7 +30,7 @@ fn are_known(children: &[Child]) -> bool
     true
 }
 
-fn is_known(name: &str, part: &Tree) -> bool
+fn is_known(name: &str, part: &Tree<'_>) -> bool
     ensures { result ≡ is_known_data (node_of part.now) (part_named name.now) }
 {
     if name == "Health" {
@@ -54,18 +54,18 @@ const ATTACK: [&str; 7] = [
     "Range", "Vision", "Repeat", "Hack", "Pierce", "Crush", "Accuracy",
 ];
 
-fn has_leaves(part: &Tree, names: &[&str]) -> bool
+fn has_leaves(part: &Tree<'_>, names: &[&str]) -> bool
     ensures { result ≡ (is_none (value_of (node_of part.now)) && are_leaves_data (texts_of names.now) (under (node_of part.now))) }
 {
     part.value.is_none() && are_leaves(part.children.as_slice(), names)
 }
 
-fn are_leaves(children: &[Child], names: &[&str]) -> bool
+fn are_leaves(children: &[Child<'_>], names: &[&str]) -> bool
     ensures { result ≡ are_leaves_data (texts_of names.now) (nodes_of children.now) }
 {
     let mut rest = children;
     while let [child, more @ ..] = rest {
-        if !is_leaf_of(child.name.text(), &child.tree, names) {
+        if !is_leaf_of(child.name.as_str(), &child.tree, names) {
             return false;
         }
         rest = more;
@@ -73,14 +73,14 @@ fn are_leaves(children: &[Child], names: &[&str]) -> bool
     true
 }
 
-fn is_leaf_of(name: &str, tree: &Tree, names: &[&str]) -> bool
+fn is_leaf_of(name: &str, tree: &Tree<'_>, names: &[&str]) -> bool
     ensures { result ≡ (among name.now (texts_of names.now) && are_none_data (under (node_of tree.now))) }
 {
     is_among(name, names) && are_none(tree.children.as_slice())
 }
 
 #[tactic(auto, using(crate::proofs::Leaves::are_none_some))]
-fn are_none(children: &[Child]) -> bool
+fn are_none(children: &[Child<'_>]) -> bool
     ensures { result ≡ are_none_data (nodes_of children.now) }
 {
     match children {

@@ -28,8 +28,8 @@ const UNARMOURED: Resist = Resist {
 pub fn template_of(
     alloc: Global,
     name: &Name,
-    tree: &Tree,
-    names: &Library,
+    tree: &Tree<'_>,
+    names: &Library<'_>,
 ) -> Result<Template, TraitFault>
     ensures early { IfErr (early_in (node_of tree.now)) (λ fault. result ≡ Err fault) }
     ensures answers { Meets result (template_in name.now (node_of tree.now) names.now.names) }

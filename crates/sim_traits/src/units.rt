@@ -17,7 +17,11 @@ use std::alloc::Global;
 const MOST: usize = 64;
 
 /// The numbers of the templates that it trains.
-pub fn train_of(alloc: Global, root: &Tree, names: &Library) -> Result<Option<Ids>, TraitFault>
+pub fn train_of(
+    alloc: Global,
+    root: &Tree<'_>,
+    names: &Library<'_>,
+) -> Result<Option<Ids>, TraitFault>
     ensures missing { part_of train_part (train_in_node names.now.names) (node_of root.now) ≡ Err (TraitFault.Missing 6) → result ≡ Err (TraitFault.Missing 6) }
     ensures value { Meets result (part_of train_part (train_in_node names.now.names) (node_of root.now)) }
     ensures within { IfOk result (λ found. IfSome found (λ numbers. (length numbers ≤ 64) × All (λ n. n < length names.now.names) numbers)) }
@@ -34,7 +38,7 @@ pub fn train_of(alloc: Global, root: &Tree, names: &Library) -> Result<Option<Id
     }
 }
 
-fn train_in(alloc: Global, part: &Tree, names: &Library) -> Result<Option<Ids>, OutOfMemory>
+fn train_in(alloc: Global, part: &Tree<'_>, names: &Library<'_>) -> Result<Option<Ids>, OutOfMemory>
     ensures value { IfOk result (λ numbers. numbers ≡ train_in_node names.now.names (node_of part.now)) }
     ensures within { IfOk result (λ found. IfSome found (λ numbers. (length numbers ≤ 64) × All (λ n. n < length names.now.names) numbers)) }
 {
@@ -44,7 +48,7 @@ fn train_in(alloc: Global, part: &Tree, names: &Library) -> Result<Option<Ids>, 
     }
 }
 
-fn units_in(alloc: Global, text: &str, names: &Library) -> Result<Option<Ids>, OutOfMemory>
+fn units_in(alloc: Global, text: &str, names: &Library<'_>) -> Result<Option<Ids>, OutOfMemory>
     ensures value { IfOk result (λ numbers. numbers ≡ units_in_text names.now.names text.now) }
     ensures within { IfOk result (λ found. IfSome found (λ numbers. (length numbers ≤ 64) × All (λ n. n < length names.now.names) numbers)) }
 {
@@ -58,7 +62,7 @@ fn units_in(alloc: Global, text: &str, names: &Library) -> Result<Option<Ids>, O
 }
 
 // Puts the number of a word behind the others, if it is a name and there is room. A part without bytes is no word.
-fn admit(numbers: &mut Ids, part: &str, names: &Library) -> Result<bool, OutOfMemory>
+fn admit(numbers: &mut Ids, part: &str, names: &Library<'_>) -> Result<bool, OutOfMemory>
     ensures admitted { IfOk result (λ admitted. admitted ≡ is_admitted names.now.names (length numbers.old) part.now) }
     ensures refused { is_admitted names.now.names (length numbers.old) part.now ≡ false → result ≡ Ok false }
     ensures numbers { result ≡ Ok true → numbers.new ≡ numbers.old ++ filter_map (number_in names.now.names) (filter is_word (part.now ∷ [])) }
