@@ -142,12 +142,16 @@ gap_le p q radius near =
 abbrev pub IsBeyond : ℕ → Point → ℕ → Type 0
 IsBeyond k at reach = (p : Point) → IsPlaced p → bucket_at p ≡ k → unsigned_abs (p.x -ℤ at.x) ≤ reach → unsigned_abs (p.z -ℤ at.z) ≤ reach → ⊥
 
-pub beyond_by : (k : ℕ) (at : Point) (radius : ℤ) (reach : ℕ) (touched : Bool) → reach ≡ unsigned_abs radius → touched ≡ false →
-    ((p : Point) → IsPlaced p → bucket_at p ≡ k → unsigned_abs (p.x -ℤ at.x) ≤ reach → unsigned_abs (p.z -ℤ at.z) ≤ reach → touched ≡ true)
-    → IsBeyond k at (unsigned_abs radius)
-beyond_by k at radius reach touched is out h p placed key x z =
-    let yes = h p placed key (omega (arith, is, x)) (omega (arith, is, z)) in
-    absurd (cc)
+pub far_away : (k mask : ℕ) (at : Point) (radius : ℤ) (f : Fact) → IsPlaced f.at → bucket_key f ≡ k → IsBeyond k at (unsigned_abs radius)
+    → near_by at radius mask f ≡ false
+far_away k mask at radius f placed key beyond = away (near_by at radius mask f) refl
+  where
+    away : (c : Bool) → near_by at radius mask f ≡ c → c ≡ false
+    away false s = refl
+    away true s =
+        let close = (and_parts (f.health && in_mask mask f.owner) (is_near f.at at radius) s).1 in
+        let gaps = gap_le f.at at radius close in
+        absurd (beyond f.at placed key gaps.0 gaps.1)
 
 pub none_beyond : (k mask : ℕ) (at : Point) (radius : ℤ) (facts : List Fact) → ArePlaced facts → IsBeyond k at (unsigned_abs radius)
     → within_among (held_in k facts) at radius mask ≡ []
@@ -158,18 +162,11 @@ none_beyond k mask at radius (f ∷ facts) all beyond =
     placed : IsPlaced f.at
     placed = All-head (λ (h : Fact). IsPlaced h.at) f facts all
 
-    away : (bucket_key f == k) ≡ true → (c : Bool) → near_by at radius mask f ≡ c → c ≡ false
-    away e false s = refl
-    away e true s =
-        let close = (and_parts (f.health && in_mask mask f.owner) (is_near f.at at radius) s).1 in
-        let gaps = gap_le f.at at radius close in
-        absurd (beyond f.at placed (eqb-true (bucket_key f) k e) gaps.0 gaps.1)
-
     by : (b : Bool) → (bucket_key f == k) ≡ b → within_among (held_in k facts) at radius mask ≡ []
         → within_among (cond b (f ∷ held_in k facts) (held_in k facts)) at radius mask ≡ []
     by true e rest = chosen-cons (near_by at radius mask) f (held_in k facts) ∙
         ap (λ (c : Bool). cond c (f.id ∷ chosen (near_by at radius mask) (held_in k facts)) (chosen (near_by at radius mask) (held_in k facts)))
-        (away e (near_by at radius mask f) refl) ∙ rest
+        (far_away k mask at radius f placed (eqb-true (bucket_key f) k e) beyond) ∙ rest
     by false e rest = rest
 
 -- what is lent of a bucket

@@ -1,9 +1,9 @@
 -- Buckets out of reach have nobody who sees the entity or is seen by it.
 use Rattle.sim_range.proofs.Common.{bucket_key, differ, eqb-true, Fact, held_in, in_mask, ints, is_near, is_seen, is_seen_by, IsOut, IsPlaced, Land, Point}
-use Rattle.sim_range.proofs.Common.{sees, SeesWithin, subst, sym, turned_seen, turned_watchers, ◌∙◌}
+use Rattle.sim_range.proofs.Common.{sees, SeesWithin, subst, sym, turned_seen, turned_watchers, within_among, ◌∙◌}
 use Rattle.sim_range.proofs.Common.{unsigned_abs, Some, None, All, Option, refl, All-head, All-tail, and_parts, ap, AreApart, ArePlaced, arith, below_bucket}
 use Rattle.sim_range.proofs.Common.{◌≡◌, ℕ, ◌<◌, ◌≤◌, Bool, true, false, cond, not, ◌&&◌, List, [], ◌∷◌, ℤ, ◌-ℤ◌, IfSome, nat_lt, ◌==◌, slice_index}
-use Rattle.sim_range.proofs.Nearing.{chosen, chosen-cons, gap_le}
+use Rattle.sim_range.proofs.Nearing.{chosen, chosen-cons, far_away, gap_le, IsBeyond, near_by}
 
 pub abs_swap : (a b : ℤ) → unsigned_abs (a -ℤ b) ≡ unsigned_abs (b -ℤ a)
 abs_swap a b = grind (arith, ints)
@@ -108,3 +108,11 @@ module _ (land : Land) (reach : ℕ) (before after : Option Fact) (facts : List 
       (λ f at q low high. both_false (sees land before f) (sees land after f)
       (unseeing land reach before f old_far (old_out (bucket_key f) low high f.at at refl))
       (unseeing land reach after f new_far (new_out (bucket_key f) low high f.at at refl)))
+
+-- where nobody near a point stands in them
+pub pass_near : (mask : ℕ) (at : Point) (radius : ℤ) (a b : ℕ) → a ≤ b → (facts : List Fact) → ArePlaced facts
+    → ((k : ℕ) → a ≤ k → k < b → IsBeyond k at (unsigned_abs radius)) →
+    within_among (below_bucket b facts) at radius mask ≡ within_among (below_bucket a facts) at radius mask
+pass_near mask at radius a b le facts placed out =
+    passed (near_by at radius mask) (λ (f : Fact). IsPlaced f.at) a b le facts placed placed
+    (λ f there q low high. far_away (bucket_key f) mask at radius f there refl (out (bucket_key f) low high))

@@ -48,8 +48,8 @@ fn span_of(from: Fixed, to: Fixed, reach: u32) -> Span
     }
 }
 
-// The area within reach of two points.
-fn between(from: &Point, to: &Point, reach: u32) -> Area
+/// The area within reach of two points.
+pub fn between(from: &Point, to: &Point, reach: u32) -> Area
     requires from { IsPlaced from.now }
     requires to { IsPlaced to.now }
     ensures order { result.rows.first ≤ result.rows.end }

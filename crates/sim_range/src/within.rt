@@ -1,9 +1,10 @@
 //! Who is near a point: looked for in the buckets about it, or among all where these would be many.
 
-ghost use Rattle.std.specs.Prelude.{◌≡◌, ◌/◌, ◌<◌, ◌≤◌, ◌&&◌, ◌++◌, length, ℤ, pos, ◌-ℤ◌, ◌≤ℤ◌, IfOk, OnOk, IsTrue, unsigned_abs, All};
-ghost use Rattle.sim_range.specs.{Bucketed.AreBuckets, Buckets.ArePlaced, Buckets.bucket_at};
+ghost use Rattle.std.specs.Prelude.{◌≡◌, ◌<◌, ◌≤◌, ◌&&◌, ◌++◌, length, IfOk, OnOk, IsTrue, unsigned_abs, All};
+ghost use Rattle.sim_range.specs.{Bucketed.AreBuckets, Buckets.ArePlaced};
 ghost use Rattle.sim_range.specs.Common.{Holds, in_mask as in_mask_of, is_inside, is_near as is_near_of, IsHeld, IsLand, IsPlaced, size_of, within_among};
 
+use crate::area::{Area, between};
 use crate::bucket::Bucket;
 use sim_base::{Fixed, Ids, Land, OutOfMemory, Point, square};
 use sim_system::Fact;
@@ -67,35 +68,17 @@ fn push_near(
     Ok(())
 }
 
-// Whether 16 rows, or columns, of cells come within reach of a number.
-fn is_reached(part: usize, from: Fixed, reach: u32) -> bool
-    requires { part < 16 }
-    ensures { (other : ℤ) → pos 0 ≤ℤ other → unsigned_abs other / 65536 / 16 ≡ part → unsigned_abs (other -ℤ from) ≤ reach → IsTrue result }
-{
-    let first = part as i64 * 1_048_576;
-    let raw = i64::from(from.raw());
-    let reach = i64::from(reach);
-    raw - reach < first + 1_048_576 && first <= raw + reach
-}
-
-// Whether a bucket comes within reach of a point, by rows and by columns.
-fn touches(number: usize, at: &Point, reach: u32) -> bool
-    requires { number < 256 }
-    ensures { (p : Point) → IsPlaced p → bucket_at p ≡ number → unsigned_abs (p.x -ℤ at.now.x) ≤ reach → unsigned_abs (p.z -ℤ at.now.z) ≤ reach
-        → IsTrue result }
-{
-    is_reached(number % 16, at.x, reach) && is_reached(number / 16, at.z, reach)
-}
-
 // Whether so many stand in the buckets about a point, a quarter of all, that it is quicker to go over all facts. Either
 // answer leads to the same ids.
-fn is_crowded(facts: &[Fact], buckets: &[Bucket], at: &Point, reach: u32) -> bool
-    requires { length buckets.now ≡ 256 }
+fn is_crowded(facts: &[Fact], buckets: &[Bucket], area: &Area) -> bool
+    requires whole { length buckets.now ≡ 256 }
+    requires order { area.now.rows.first ≤ area.now.rows.end }
+    requires end { area.now.rows.end ≤ 16 }
 {
     let mut count: usize = 0;
-    for (number, bucket) in buckets.iter().enumerate() {
-        if touches(number, at, reach) {
-            count = count.saturating_add(bucket.facts.len());
+    for number in area.rows.first * 16..area.rows.end * 16 {
+        if area.columns.has(number % 16) {
+            count = count.saturating_add(buckets[number].facts.len());
         }
     }
     count > facts.len() / 4
@@ -118,15 +101,22 @@ pub fn within(
     requires at { IsTrue (is_inside (size_of land.now) at.now) }
     ensures { IfOk result (λ ids. ids ≡ within_among facts.now at.now radius mask) }
 {
-    let reach = reach_of(radius);
+    let area = between(at, at, reach_of(radius));
     let mut ids = Vec::new(alloc);
-    if is_crowded(facts, buckets, at, reach) {
+    if is_crowded(facts, buckets, &area) {
         push_near(&mut ids, land, facts, at, radius, mask)?;
         return Ok(Ids::from_items(ids));
     }
-    for (number, bucket) in buckets.iter().enumerate() {
-        if touches(number, at, reach) {
-            push_near(&mut ids, land, bucket.facts.as_slice(), at, radius, mask)?;
+    for number in area.rows.first * 16..area.rows.end * 16 {
+        if area.columns.has(number % 16) {
+            push_near(
+                &mut ids,
+                land,
+                buckets[number].facts.as_slice(),
+                at,
+                radius,
+                mask,
+            )?;
         }
     }
     ids.sort_unstable();
