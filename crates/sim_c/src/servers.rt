@@ -3,8 +3,8 @@
 ghost use Rattle.std.specs.Prelude.{◌≡◌, ◌⊎◌, pos, IfOk, IfErr, option_map};
 ghost use Rattle.{sim_embed.specs.Bytes.OfMatch, sim_embed.specs.Causes.IsNoMatch, sim_server.specs.Standing.server_of};
 ghost use Rattle.sim_c.specs.{Gives.Answers as IsAnswered, Holding.Comes, Holding.IsServer, Holding.OfServer, Holding.Opens, Status.went_status};
-ghost use Rattle.sim_c.specs.Servers.{count_of as count_by, HearsFrame, IsCut, number_of as number_by, Sends};
-ghost use Rattle.sim_held.specs.Servers.{IsServerOf};
+ghost use Rattle.sim_c.specs.Servers.{count_of as count_by, number_of as number_by, Sends, SendsNothing};
+ghost use Rattle.sim_held.specs.Servers.{HasLost, HearsFrame, IsServerOf};
 
 use crate::Fault;
 use crate::giving::fill;
@@ -80,7 +80,7 @@ fn hear(server: &mut HeldServer, from: u8, frame: &[u8]) -> i32
 #[unsafe(no_mangle)]
 pub extern "C" fn simcore_server_cut(alloc: Global, handle: &mut Handle, client: u32) -> i32
     ensures { let number = number_by client in OfServer (λ old new.
-        Comes (λ answer. IsCut number old answer new) (λ answer. result ≡ went_status (pos 103) answer))
+        Comes (λ answer. HasLost number old answer new) (λ answer. result ≡ went_status (pos 103) answer))
         (result ≡ pos 101) handle.old.held handle.new.held }
 {
     with_held!(alloc, handle; Held::Server(server) => give_went(server.cut(number_of(client)), FRAME_REFUSED))
@@ -95,8 +95,8 @@ pub extern "C" fn simcore_server_take(
     room: &mut [u8],
     written: &mut u64,
 ) -> i32
-    ensures { OfServer (λ old new. Sends (number_by client) result room.old room.new written.new old new
-        ⊎ ((result ≡ pos 9) × (room.new ≡ room.old) × (written.new ≡ written.old) × (new ≡ old)))
+    ensures { let number = number_by client in OfServer (λ old new. Sends number result room.old room.new written.new old new
+        ⊎ SendsNothing number result room.old room.new written.old written.new old new)
         ((result ≡ pos 101) × (room.new ≡ room.old) × (written.new ≡ written.old)) handle.old.held handle.new.held }
 {
     with_held!(alloc, handle; Held::Server(server) => take(server, number_of(client), room, written))
@@ -104,7 +104,7 @@ pub extern "C" fn simcore_server_take(
 
 fn take(server: &mut HeldServer, client: u8, room: &mut [u8], written: &mut u64) -> i32
     ensures { Sends client result room.old room.new written.new server.old server.new
-        ⊎ ((result ≡ pos 9) × (room.new ≡ room.old) × (written.new ≡ written.old) × (server.new ≡ server.old)) }
+        ⊎ SendsNothing client result room.old room.new written.old written.new server.old server.new }
 {
     let Ok(bytes) = server.said(client) else {
         return NO_MEMORY;

@@ -1,48 +1,14 @@
 -- What a client hears without memory.
-use Rattle.sim_base.specs.declared.{setup.Setup.Setup, state.State.State}
+use Rattle.sim_base.specs.declared.setup.Setup.{Setup}
 use Rattle.sim_client.specs.{ClientWords.Answers, ClientWords.NeedsNoMemory, declared.did.Did.Did, declared.did.Did.TheVariants.Done, declared.did.Did.TheVariants.Idle}
 use Rattle.sim_client.specs.LifeLaws.{says_of}
-use Rattle.{sim_client.specs.Lives.Told, sim_held.specs.Acting.said_by, sim_held.specs.Hearing.brings_state, sim_held.specs.Hearing.goes_by}
+use Rattle.{sim_client.specs.Lives.Told, sim_held.specs.Acting.said_by, sim_held.specs.Hearing.brings_state}
 use Rattle.sim_held.proofs.Common.{◌≡◌, ℕ, ◌<◌, Bool, true, false, List, [], length, Some, None, Ok, Option, if◌then◌else◌, refl, arith, subst, sym, ◌∙◌}
-use Rattle.sim_held.proofs.Common.{Act, hears, Joining, Life, Off, On}
-use Rattle.{sim_plain_session.specs.Players.Player, sim_wire.specs.Fits.IsDownFrame, sim_wire.specs.Frames.down_frame, sim_wire.specs.Memory.down_carries}
-use Rattle.std.{proofs.lemmas.Bool.false≢true, specs.Prelude.nat_eq, specs.Prelude.nat_lt, specs.Prelude.slice_index_or}
+use Rattle.sim_held.proofs.Common.{Act, hears, Life, On}
+use Rattle.{sim_plain_session.specs.Players.Player, sim_wire.specs.Fits.IsDownFrame, sim_wire.specs.Frames.down_frame}
+use Rattle.std.specs.Prelude.{nat_eq, nat_lt, slice_index_or}
 use Rattle.sim_base.specs.Bytes.{u32_bytes}
 use Rattle.sim_plain.specs.declared.message.DownOf.TheVariants as down
-
--- ---- a state or a command that a client need not read
-
-pub passed : (setup : Setup) (loaded : Option State) (said : Told) (life : Life) → down_carries said ≡ true → goes_by life said ≡ true
-    → hears setup loaded said life ≡ None
-passed setup loaded said Off carries by = refl
-passed setup loaded (down.Ask j) Joining carries by = refl
-passed setup loaded (down.State done bytes) Joining carries by = absurd (false≢true by)
-passed setup loaded (down.Command t order) Joining carries by = refl
-passed setup loaded (down.Release t) Joining carries by = refl
-passed setup loaded (down.Notice t j) Joining carries by = refl
-passed setup loaded (down.Refused code) Joining carries by = absurd (false≢true carries)
-passed setup loaded (down.Ask j) (On player) carries by = absurd (false≢true by)
-passed setup loaded (down.State done bytes) (On player) carries by = refl
-passed setup loaded (down.Command t order) (On player) carries by = absurd (false≢true by)
-passed setup loaded (down.Release t) (On player) carries by = absurd (false≢true by)
-passed setup loaded (down.Notice t j) (On player) carries by = refl
-passed setup loaded (down.Refused code) (On player) carries by = refl
-
--- one that it has to read needs memory
-pub not_passed : (said : Told) (life : Life) → down_carries said ≡ true → goes_by life said ≡ false → NeedsNoMemory life said → ⊥
-not_passed said Off carries by none = absurd (false≢true (sym by))
-not_passed (down.Ask j) Joining carries by none = absurd (false≢true carries)
-not_passed (down.State done bytes) Joining carries by none = none
-not_passed (down.Command t order) Joining carries by none = absurd (false≢true (sym by))
-not_passed (down.Release t) Joining carries by none = absurd (false≢true carries)
-not_passed (down.Notice t j) Joining carries by none = absurd (false≢true carries)
-not_passed (down.Refused code) Joining carries by none = absurd (false≢true carries)
-not_passed (down.Ask j) (On player) carries by none = none
-not_passed (down.State done bytes) (On player) carries by none = absurd (false≢true (sym by))
-not_passed (down.Command t order) (On player) carries by none = none
-not_passed (down.Release t) (On player) carries by none = absurd (false≢true carries)
-not_passed (down.Notice t j) (On player) carries by none = absurd (false≢true carries)
-not_passed (down.Refused code) (On player) carries by none = absurd (false≢true carries)
 
 -- ---- the tag of a frame
 
