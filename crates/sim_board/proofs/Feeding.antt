@@ -198,22 +198,61 @@ module _ (setup : Setup) (state : State) (id : ℕ) (ids : List ℕ) (n w : ℕ)
             (then_watching (release_all (take n ids) state) id w (drop (suc n) ids) watching_here);
       })
 
-pub kept_watch : (s t : Systems) (m : Meaning) (note : Note) → AreKept s t → m ≡ told t.watch note → AreKept s (four t.ground t.range m t.census)
-kept_watch s t m note kept is = record {
-  kinds = record {
-    ground = kept.kinds.ground;
-    range = kept.kinds.range;
-    watch = ap (λ (x : Meaning). x.kind) is ∙ kept.kinds.watch;
-    census = kept.kinds.census;
-  };
+-- ---- no system is built
+
+-- where nobody was told
+pub kept_fed : (setup : Setup) (state : State) (s : Systems) → AreFed setup state s → AreKept s s
+kept_fed setup state s fed = record {
+  kinds = record { ground = fed.ground.kinds; range = fed.range.kinds; watch = fed.watch.kinds; census = fed.census.kinds };
+  rebuilds = record { ground = refl; range = refl; watch = refl; census = refl };
+}
+
+-- by one that comes behind another
+pub kept_on : (s t u : Systems) → AreKept s t → AreKept t u → AreKept s u
+kept_on s t u first second = record {
+  kinds = second.kinds;
   rebuilds = record {
-    ground = kept.rebuilds.ground;
-    range = kept.rebuilds.range;
-    watch = ap (λ (x : Meaning). x.rebuilds) is ∙ kept.rebuilds.watch;
-    census =
-        kept.rebuilds.census;
+    ground = second.rebuilds.ground ∙ first.rebuilds.ground;
+    range = second.rebuilds.range ∙ first.rebuilds.range;
+    watch = second.rebuilds.watch ∙ first.rebuilds.watch;
+    census = second.rebuilds.census ∙ first.rebuilds.census;
   };
 }
+
+-- where one was told, or found no memory for it
+module _ (s t : Systems) (m : Meaning) (kept : AreKept s t) where
+  pub kept_range : m.kind ≡ t.range.kind → m.rebuilds ≡ t.range.rebuilds → AreKept s (four t.ground m t.watch t.census)
+  kept_range kind rebuilds = record {
+    kinds = record { ground = kept.kinds.ground; range = kind ∙ kept.kinds.range; watch = kept.kinds.watch; census = kept.kinds.census };
+    rebuilds = record {
+      ground = kept.rebuilds.ground;
+      range = rebuilds ∙ kept.rebuilds.range;
+      watch = kept.rebuilds.watch;
+      census = kept.rebuilds.census;
+    };
+  }
+
+  pub kept_watch : m.kind ≡ t.watch.kind → m.rebuilds ≡ t.watch.rebuilds → AreKept s (four t.ground t.range m t.census)
+  kept_watch kind rebuilds = record {
+    kinds = record { ground = kept.kinds.ground; range = kept.kinds.range; watch = kind ∙ kept.kinds.watch; census = kept.kinds.census };
+    rebuilds = record {
+      ground = kept.rebuilds.ground;
+      range = kept.rebuilds.range;
+      watch = rebuilds ∙ kept.rebuilds.watch;
+      census = kept.rebuilds.census;
+    };
+  }
+
+  pub kept_census : m.kind ≡ t.census.kind → m.rebuilds ≡ t.census.rebuilds → AreKept s (four t.ground t.range t.watch m)
+  kept_census kind rebuilds = record {
+    kinds = record { ground = kept.kinds.ground; range = kept.kinds.range; watch = kept.kinds.watch; census = kind ∙ kept.kinds.census };
+    rebuilds = record {
+      ground = kept.rebuilds.ground;
+      range = kept.rebuilds.range;
+      watch = kept.rebuilds.watch;
+      census = rebuilds ∙ kept.rebuilds.census;
+    };
+  }
 
 -- ---- a removal
 

@@ -1,0 +1,33 @@
+-- The systems are built from the state, which is valid.
+use Rattle.sim_board.proofs.Common.{refl}
+use Rattle.sim_board.proofs.board.Board.adopt.Goals as goal
+use Rattle.sim_laws.proofs.Validity.{valid_is_loose}
+
+pub returns-in_err-build : goal.returns-in_err-build
+returns-in_err-build g c =
+    let built = c.in_err-build.ensures in
+    record {
+      state = tt;
+      whole = tt;
+      err = refl;
+      kinds = built.kinds;
+      once = tt;
+      most = built.most;
+      setup = refl;
+    }
+
+pub returns : goal.returns
+returns g c =
+    let built = c.in_ok-build.ensures in
+    record {
+      state = refl;
+      whole = record {
+        whole = refl;
+        standing = record { limits = c.requires.limits; valid = valid_is_loose _ _ c.requires.valid; fed = built.fed };
+      };
+      err = tt;
+      kinds = built.kinds;
+      once = built.once;
+      most = built.most;
+      setup = refl;
+    }

@@ -1,0 +1,28 @@
+-- The state that is taken is the first one.
+use Rattle.sim_board.proofs.Common.{refl, sym}
+use Rattle.sim_board.proofs.Counting.{none_built}
+use Rattle.sim_board.proofs.board.Board.start.Goals as goal
+
+pub returns-in_err-state : goal.returns-in_err-state
+returns-in_err-state g c = record {
+  state = tt;
+  whole = tt;
+  err = refl;
+  kinds = c.requires.kinds;
+  once = tt;
+  most = none_built _;
+  setup = refl;
+}
+
+pub returns : goal.returns
+returns g c =
+    let adopts = c.adopt.ensures in
+    record {
+      state = rw (sym c.in_ok-state.ensures.state) adopts.state;
+      whole = adopts.whole;
+      err = adopts.err;
+      kinds = adopts.kinds;
+      once = adopts.once;
+      most = adopts.most;
+      setup = adopts.setup;
+    }
