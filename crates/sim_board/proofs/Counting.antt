@@ -1,5 +1,6 @@
 -- A system was built once, or not at all.
-use Rattle.sim_board.proofs.Common.{◌≡◌, arith, AreBuiltOnce, AreBuiltOnceAtMost, AreKept, Err, IsBuiltOnceAtMost, Meaning, Ok, OnOk, one_more, Result, Systems, ◌∙◌}
+use Rattle.sim_board.proofs.Common.{AreBuiltOnceAtMost, AreKept, Err, IsBuiltOnceAtMost, Meaning, Ok, OnOk, one_more, Result, Systems, ◌∙◌}
+use Rattle.sim_board.proofs.Common.{◌≡◌, arith, AreBuiltOnce}
 
 pub not_built : (m : Meaning) → IsBuiltOnceAtMost m m
 not_built m = record { low = omega arith; high = omega arith }
@@ -7,8 +8,8 @@ not_built m = record { low = omega arith; high = omega arith }
 pub built_once : (m n : Meaning) → n.rebuilds ≡ one_more m.rebuilds → IsBuiltOnceAtMost m n
 built_once m n is = record { low = omega (arith, is); high = omega (arith, is) }
 
-pub none_built : (s : Systems) → AreBuiltOnceAtMost s s
-none_built s = record { ground = not_built s.ground; range = not_built s.range; watch = not_built s.watch; census = not_built s.census }
+pub built_same : (s : Systems) → AreBuiltOnceAtMost s s
+built_same s = record { ground = not_built s.ground; range = not_built s.range; watch = not_built s.watch; census = not_built s.census }
 
 -- ---- and no more behind that
 

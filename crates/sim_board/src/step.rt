@@ -27,7 +27,13 @@ impl Board<'_> {
         ensures { Steps result (change.Remove id) self.old self.new ⟦<dyn System as System>⟧ }
     {
         let watchers = self.removed(id)?;
-        remove(self.alloc, &mut self.state, id, watchers.as_slice(), self.near);
+        remove(
+            self.alloc,
+            &mut self.state,
+            id,
+            watchers.as_slice(),
+            self.near,
+        );
         Ok(())
     }
 

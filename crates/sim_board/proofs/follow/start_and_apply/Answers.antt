@@ -1,11 +1,13 @@
 -- No system is built by the changes.
 use Rattle.sim_board.proofs.{Common.sym, Common.◌∙◌, Counting.most_kept, Counting.once_kept}
 use Rattle.sim_board.proofs.follow.start_and_apply.Goals as goal
+use Rattle.std.proofs.lemmas.Result.{err_from_is_err_and}
 
 pub returns-in_err-start : goal.returns-in_err-start
 returns-in_err-start g c =
     let begins = c.in_err-start.ensures in
-    record {
+    let p = err_from_is_err_and c.from_residual.result c.from_residual.ensures.1 in
+    rw p.1 (record {
       state = tt;
       whole = tt;
       err = begins.err;
@@ -13,7 +15,7 @@ returns-in_err-start g c =
       once = tt;
       most = begins.most;
       setup = begins.setup;
-    }
+    })
 
 pub returns : goal.returns
 returns g c =

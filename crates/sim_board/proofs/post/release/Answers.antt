@@ -1,6 +1,5 @@
 -- One more is let go.
-use Rattle.sim_board.proofs.Common.{arith, ap, Meaning, refl}
-use Rattle.sim_board.proofs.Feeding.{kept_watch, let_go_more, release_may_hear}
+use Rattle.sim_board.proofs.{Common.arith, Common.refl, Feeding.let_go_more, Feeding.release_may_hear, Keeping.kept_watch}
 use Rattle.sim_board.proofs.post.release.Goals as goal
 
 pub tell-requires : goal.tell-requires
@@ -11,5 +10,5 @@ pub loop-watcher-preserved : goal.loop-watcher-preserved
 loop-watcher-preserved g c = (
   let_go_more c.args.setup.now c.args.state.now c.args.id c.args.ids.now c.loop-watcher.watcher-index _ _ c.loop-watcher.invariant.0 (omega arith) refl _ refl
       refl c.in_ok-tell.ensures.ok refl,
-  kept_watch _ _ _ c.loop-watcher.invariant.1 (ap (λ (m : Meaning). m.kind) c.in_ok-tell.ensures.ok) (ap (λ (m : Meaning). m.rebuilds) c.in_ok-tell.ensures.ok),
+  kept_watch _ _ _ _ c.loop-watcher.invariant.1 c.in_ok-tell.ensures.ok refl refl,
 )

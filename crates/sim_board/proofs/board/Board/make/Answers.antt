@@ -1,6 +1,7 @@
 -- The systems know the state after the change, so the board is whole again.
 use Rattle.sim_board.proofs.Common.{refl}
 use Rattle.sim_board.proofs.board.Board.make.Goals as goal
+use Rattle.std.proofs.lemmas.Result.{err_from_is_err_and}
 
 pub step-requires : goal.step-requires
 step-requires g c = record { stands = c.requires.whole.standing; fits = c.requires.fits }
@@ -8,7 +9,8 @@ step-requires g c = record { stands = c.requires.whole.standing; fits = c.requir
 pub returns-in_err-step : goal.returns-in_err-step
 returns-in_err-step g c =
     let steps = c.in_err-step.ensures in
-    record {
+    let p = err_from_is_err_and c.from_residual.result c.from_residual.ensures.1 in
+    rw p.1 (record {
       state = tt;
       whole = tt;
       err = steps.whole;
@@ -16,7 +18,7 @@ returns-in_err-step g c =
       untold = steps.untold;
       kept = steps.kept;
       setup = steps.setup;
-    }
+    })
 
 pub returns : goal.returns
 returns g c =

@@ -1,6 +1,6 @@
 -- No system is told of what none keeps.
-use Rattle.sim_board.proofs.{Common.ap, Common.posts, Common.refl, Feeding.kept_fed, Feeding.silent_fed}
-use Rattle.sim_board.proofs.post.Board.post.Goals as goal
+use Rattle.sim_board.proofs.{Common.ap, Common.posts, Common.refl, Feeding.silent_fed, Keeping.kept_fed}
+use Rattle.sim_board.proofs.board.Board.post.Goals as goal
 
 pub returns-in-Motion-clause-tells : goal.returns-in-Motion-clause-tells
 returns-in-Motion-clause-tells g c = record {

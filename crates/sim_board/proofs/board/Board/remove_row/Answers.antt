@@ -1,12 +1,14 @@
 -- Those who watched are released, and the row left.
 use Rattle.sim_board.proofs.{Common.ap, Common.left_by, Common.◌∙◌, Letting.left_by_watchers, Standing.stands_by}
 use Rattle.sim_base.specs.declared.change.Change.TheVariants as change
-use Rattle.sim_board.proofs.step.Board.remove_row.Goals as goal
+use Rattle.sim_board.proofs.board.Board.remove_row.Goals as goal
+use Rattle.std.proofs.lemmas.Result.{err_from_is_err_and}
 
 pub returns-in_err-watchers : goal.returns-in_err-watchers
 returns-in_err-watchers g c =
     let tells = c.in_err-watchers.ensures.tells in
-    record {
+    let p = err_from_is_err_and c.from_residual.result c.from_residual.ensures.1 in
+    rw p.1 (record {
       state = tt;
       stands = tt;
       sure = λ needs. absurd needs;
@@ -14,7 +16,7 @@ returns-in_err-watchers g c =
       kept = tells.kept;
       setup = tells.setup;
       whole = tells.whole;
-    }
+    })
 
 pub returns : goal.returns
 returns g c =

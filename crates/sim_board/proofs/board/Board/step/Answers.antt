@@ -1,6 +1,6 @@
 -- The place that is kept for the row changes nothing else.
 use Rattle.sim_board.proofs.Common.{Fits, subst}
-use Rattle.sim_board.proofs.step.Board.step.Goals as goal
+use Rattle.sim_board.proofs.board.Board.step.Goals as goal
 
 pub remove_row-requires : goal.remove_row-requires
 remove_row-requires g c = record {

@@ -1,11 +1,13 @@
 -- The systems were told of it, and the state is as it says.
 use Rattle.sim_board.proofs.{Common.sym, Standing.keeping_makes_none, Standing.makes_none, Standing.stands_if}
-use Rattle.sim_board.proofs.step.Board.change_row.Goals as goal
+use Rattle.sim_board.proofs.board.Board.change_row.Goals as goal
+use Rattle.std.proofs.lemmas.Result.{err_from_is_err_and}
 
 pub returns-in_err-post : goal.returns-in_err-post
 returns-in_err-post g c =
     let posted = c.in_err-post.ensures in
-    record {
+    let p = err_from_is_err_and c.from_residual.result c.from_residual.ensures.1 in
+    rw p.1 (record {
       state = tt;
       stands = tt;
       sure = posted.sure;
@@ -13,7 +15,7 @@ returns-in_err-post g c =
       kept = posted.tells.kept;
       setup = posted.tells.setup;
       whole = posted.tells.whole;
-    }
+    })
 
 pub returns : goal.returns
 returns g c =
