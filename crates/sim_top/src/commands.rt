@@ -1,5 +1,5 @@
 //! What each command makes of its files: the whole text that it prints, and the bytes of the file that it saves. Nothing
-//! is written here. Each command that plays takes the rigs that it uses out of the hall, and puts them back.
+//! is written here. Each command that plays takes the rigs that it uses out of the equipment, and puts them back.
 
 ghost use Rattle.std.specs.Prelude.{Some, string_bytes};
 ghost use Rattle.sim_top.specs.{Commands.IsAnswerTo, Commands.shelved, Making.IsMadeOf, Making.status_made};
@@ -49,16 +49,17 @@ pub struct Answer<'w> {
     pub saved: Option<Saved<'w>>,
 }
 
-/// What commands play with: memory, the eight rigs of a run, the handlers of orders and those of deeds.
+/// What a run is handed beside its words and its files: memory, the eight rigs, the handlers of orders and those of deeds. Its methods are
+/// the commands that play.
 #[derive(Drop)]
-pub struct Hall<'a> {
+pub struct Equipment<'a> {
     pub alloc: Global,
     pub rigs: Vec<Rig>,
     pub orders: &'a OrderTable,
     pub deeds: &'a DeedTable,
 }
 
-impl Hall<'_> {
+impl Equipment<'_> {
     /// What the request comes to, or why it ends before.
     pub fn answer_to<'w, S: Shelf>(
         &mut self,

@@ -11,7 +11,7 @@ ghost use Rattle.sim_top.specs.Answers.{Causes, CountsBefore, IsSilent, IsUsageT
 ghost use Rattle.sim_top.specs.Common.{Appends, AreCleared, Counts as AllCounts, File, HaveKinds, systems_of, usage_text as text_of_usage};
 ghost use Rattle.sim_top.specs.Making.{file_of, IsAnswered, IsSavedAs, IsSettled, MeetsBefore, SaveMeets, SavesIfDone, Tells};
 
-use crate::commands::{Answer, Hall, Saved};
+use crate::commands::{Answer, Equipment, Saved};
 use crate::words::request_of;
 use crate::{Status, Stop};
 use sim_base::OutOfMemory;
@@ -112,15 +112,15 @@ pub fn run<S: Shelf, K: Sink>(
     // all others are as they were.
     ensures back { RigsCameBack ⟦<dyn System as System>⟧ (asked_by (words_of words.now)) (S.held shelf.old) result.status rigs result.rigs }
 {
-    let mut hall = Hall {
+    let mut equipment = Equipment {
         alloc,
         rigs,
         orders,
         deeds,
     };
-    let answer = made_answer(words, shelf, &mut hall);
+    let answer = made_answer(words, shelf, &mut equipment);
     let status = finish(shelf, out, &answer);
-    let Hall { rigs, .. } = hall;
+    let Equipment { rigs, .. } = equipment;
     Ended { status, rigs }
 }
 
@@ -173,18 +173,27 @@ fn save<S: Shelf>(shelf: &mut S, saved: &Option<Saved<'_>>) -> Result<(), StoreF
 }
 
 // The status, the text and the file that the words come to.
-fn made_answer<'w, S: Shelf>(words: &'w [String], shelf: &mut S, hall: &mut Hall<'_>) -> Answer<'w>
-    requires { AreFresh ⟦<dyn System as System>⟧ hall.old.rigs.items }
+fn made_answer<'w, S: Shelf>(
+    words: &'w [String],
+    shelf: &mut S,
+    equipment: &mut Equipment<'_>,
+) -> Answer<'w>
+    requires { AreFresh ⟦<dyn System as System>⟧ equipment.old.rigs.items }
     ensures answer { IsPrepared (words_of words.now) result.status (string_bytes result.text) result.saved (shelved (S.held shelf.old) (S.counts shelf.old))
         (shelved (S.held shelf.new) (S.counts shelf.new)) }
-    ensures back { RigsCameBack ⟦<dyn System as System>⟧ (asked_by (words_of words.now)) (S.held shelf.old) result.status hall.old.rigs hall.new.rigs }
+    ensures back { RigsCameBack ⟦<dyn System as System>⟧ (asked_by (words_of words.now)) (S.held shelf.old) result.status equipment.old.rigs
+        equipment.new.rigs }
 {
     let Some(request) = request_of(words) else {
-        return answered(hall.alloc, Status::Usage, usage_text(hall.alloc));
+        return answered(equipment.alloc, Status::Usage, usage_text(equipment.alloc));
     };
-    match hall.answer_to(request, shelf) {
+    match equipment.answer_to(request, shelf) {
         Ok(answer) => answer,
-        Err(stop) => answered(hall.alloc, stop.status(), stop_text(hall.alloc, &stop)),
+        Err(stop) => answered(
+            equipment.alloc,
+            stop.status(),
+            stop_text(equipment.alloc, &stop),
+        ),
     }
 }
 

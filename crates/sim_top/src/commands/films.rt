@@ -6,7 +6,7 @@ ghost use Rattle.sim_top.specs.{Common.film_text as text_of_film, Common.last_st
 ghost use Rattle.sim_top.specs.{Returning.RigsCameBack, Rigs.AreEight, Rigs.HasPlayed};
 ghost use Rattle.sim_play.specs.Playing.{MayBegin};
 
-use super::{Answer, Hall, shown};
+use super::{Answer, Equipment, shown};
 use crate::inputs::read_match;
 use crate::rigs::{put_first, take_first};
 use crate::{Status, Stop};
@@ -15,7 +15,7 @@ use sim_play::film_text;
 use sim_store::Shelf;
 use sim_system::{Rig, System};
 
-impl Hall<'_> {
+impl Equipment<'_> {
     /// Tells the states of the match of a file, at turns so many apart and at the last.
     pub fn film<'w, S: Shelf>(
         &mut self,

@@ -7,7 +7,7 @@ ghost use Rattle.sim_top.specs.Words.{to_rejoin};
 ghost use Rattle.sim_play.specs.Playing.{MayReach};
 
 use super::storing::reached;
-use super::{Answer, Hall, shown};
+use super::{Answer, Equipment, shown};
 use crate::inputs::read_match;
 use crate::rigs::{put_first, take_first};
 use crate::stop::Stop;
@@ -16,7 +16,7 @@ use sim_play::rejoin_text;
 use sim_store::Shelf;
 use sim_system::{Rig, System};
 
-impl Hall<'_> {
+impl Equipment<'_> {
     /// Plays the match of a file, which a second client joins at a turn.
     pub fn rejoin<'w, S: Shelf>(
         &mut self,

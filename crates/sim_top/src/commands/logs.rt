@@ -8,7 +8,7 @@ ghost use Rattle.sim_top.specs.{Outcome.logged_as};
 ghost use Rattle.sim_top.specs.Common.{IsLog, last_state, log_after as log_of_turns, logged_line, match_turns, state_after, systems_of};
 ghost use Rattle.sim_play.specs.Playing.{MayBegin};
 
-use super::{Answer, Hall, Saved};
+use super::{Answer, Equipment, Saved};
 use crate::inputs::{read_log, read_match};
 use crate::rigs::{put_first, take_first};
 use crate::{Status, Stop};
@@ -20,7 +20,7 @@ use sim_store::Shelf;
 use sim_system::{Rig, System};
 use std::alloc::Global;
 
-impl Hall<'_> {
+impl Equipment<'_> {
     /// Stores the log of the match of a file.
     pub fn log<'w, S: Shelf>(
         &mut self,
@@ -95,7 +95,7 @@ fn written(
     Ok((bytes, text))
 }
 
-impl Hall<'_> {
+impl Equipment<'_> {
     /// Checks the log of a file, by playing the match of another as it says.
     pub fn check<'w, S: Shelf>(
         &mut self,

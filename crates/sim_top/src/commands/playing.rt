@@ -6,7 +6,7 @@ ghost use Rattle.sim_top.specs.{Outcome.printed as printed_as, Returning.RigsCam
 ghost use Rattle.sim_top.specs.Common.{end_from, first_state, play_text as text_of_play, resume_text as text_of_resume};
 ghost use Rattle.sim_play.specs.Playing.{MayBegin, MayResume};
 
-use super::{Answer, Hall, shown};
+use super::{Answer, Equipment, shown};
 use crate::inputs::{read_match, read_state};
 use crate::rigs::{put_first, take_first};
 use crate::{Status, Stop};
@@ -15,7 +15,7 @@ use sim_play::{play_text, resume_text};
 use sim_store::Shelf;
 use sim_system::{Rig, System};
 
-impl Hall<'_> {
+impl Equipment<'_> {
     /// Plays the match of a file from its start.
     pub fn play<'w, S: Shelf>(
         &mut self,

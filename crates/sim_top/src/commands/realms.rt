@@ -7,7 +7,7 @@ ghost use Rattle.sim_top.specs.Words.{to_realm};
 ghost use Rattle.sim_play.specs.Playing.{MayReach};
 
 use super::storing::reached;
-use super::{Answer, Hall, shown};
+use super::{Answer, Equipment, shown};
 use crate::inputs::read_match;
 use crate::rigs::{put_first, take_first};
 use crate::stop::Stop;
@@ -16,7 +16,7 @@ use sim_play::realm_text;
 use sim_store::Shelf;
 use sim_system::{Rig, System};
 
-impl Hall<'_> {
+impl Equipment<'_> {
     /// Tells the territories of a turn of the match of a file.
     pub fn realm<'w, S: Shelf>(
         &mut self,

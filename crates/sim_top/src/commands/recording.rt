@@ -7,7 +7,7 @@ ghost use Rattle.sim_top.specs.{Common.session_of, Common.state_after, Returning
 ghost use Rattle.sim_top.specs.Common.{AllBuiltAtMost, IsSetup, IsStepList, log_after as log_of_turns, released_turns as turns_released, rigs_of};
 
 use super::logs::stored_log;
-use super::{Answer, Hall};
+use super::{Answer, Equipment};
 use crate::inputs::{read_session_match, read_steps};
 use crate::rigs::{put_first, take_first};
 use crate::stop::Stop;
@@ -20,7 +20,7 @@ use sim_store::Shelf;
 use sim_system::{Rig, System};
 use std::mem;
 
-impl Hall<'_> {
+impl Equipment<'_> {
     /// Runs a session of the match of a file over the steps of another, and stores the log of its released turns.
     pub fn record<'w, S: Shelf>(
         &mut self,

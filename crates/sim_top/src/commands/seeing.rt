@@ -9,7 +9,7 @@ ghost use Rattle.sim_top.specs.Returning.{RigsCameBack};
 ghost use Rattle.sim_play.specs.Playing.{MayReach, MayResume};
 
 use super::storing::reached;
-use super::{Answer, Hall, Saved, shown};
+use super::{Answer, Equipment, Saved, shown};
 use crate::inputs::{read_match, read_sight, read_state};
 use crate::rigs::{put_first, take_first};
 use crate::{Status, Stop};
@@ -19,7 +19,7 @@ use sim_store::Shelf;
 use sim_system::{Rig, System};
 use sim_vision::Sight;
 
-impl Hall<'_> {
+impl Equipment<'_> {
     /// Tells what the players see at a turn of the match of a file, and stores what they have explored.
     pub fn sight<'w, S: Shelf>(
         &mut self,
@@ -74,7 +74,7 @@ fn kept_sight<'w>(
     })
 }
 
-impl Hall<'_> {
+impl Equipment<'_> {
     /// Tells what the players see at the end of the match of a file, from a state that is stored in another on and the explored
     /// cells of a third.
     pub fn resight<'w, S: Shelf>(

@@ -5,7 +5,7 @@ ghost use Rattle.sim_top.specs.{Commands.IsAnswerTo, Commands.shelved, Common.se
 ghost use Rattle.sim_top.specs.{Making.IsMade, Making.status_made, Outcome.printed as printed_as, Rigs.AreEight, Rigs.AreFresh, Words.to_session};
 ghost use Rattle.sim_top.specs.Common.{AllBuiltAtMost, AllStand, builds_of, IsSetup, IsStepList, rigs_of, session_of};
 
-use super::{Answer, Hall, shown};
+use super::{Answer, Equipment, shown};
 use crate::inputs::read_steps;
 use crate::{Status, Stop, read_session_match};
 use sim_base::Setup;
@@ -15,7 +15,7 @@ use sim_store::Shelf;
 use sim_system::{Rig, System};
 use std::mem;
 
-impl Hall<'_> {
+impl Equipment<'_> {
     /// Runs a session of the match of a file over the steps of another. The match is read, and refused, before the steps.
     pub fn session<'w, S: Shelf>(
         &mut self,

@@ -5,7 +5,7 @@ ghost use Rattle.sim_top.specs.{Commands.IsAnswerTo, Commands.shelved, Making.Is
 ghost use Rattle.sim_top.specs.{Common.IsEconomy, Common.paid_state, Common.stock_text, Common.systems_of, Outcome.printed};
 ghost use Rattle.sim_play.specs.Playing.{MayBegin};
 
-use super::{Answer, Hall, shown};
+use super::{Answer, Equipment, shown};
 use crate::inputs::{read_economy, read_match};
 use crate::rigs::{put_first, take_first};
 use crate::{Status, Stop};
@@ -15,7 +15,7 @@ use sim_stock::DeedTable;
 use sim_store::Shelf;
 use sim_system::{Rig, System};
 
-impl Hall<'_> {
+impl Equipment<'_> {
     /// Plays the match of a file by the economy of another.
     pub fn stock<'w, S: Shelf>(
         &mut self,

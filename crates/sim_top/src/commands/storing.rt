@@ -6,7 +6,7 @@ ghost use Rattle.sim_top.specs.{Making.IsMade, Making.IsMadeOf, Making.status_ma
 ghost use Rattle.sim_top.specs.Common.{after, digest as digest_of, IsValid, own_turns, saved_line, spelling, systems_of};
 ghost use Rattle.sim_play.specs.Playing.{MayReach};
 
-use super::{Answer, Hall, Saved};
+use super::{Answer, Equipment, Saved};
 use crate::inputs::read_match;
 use crate::rigs::{put_first, take_first};
 use crate::{Status, Stop};
@@ -18,7 +18,7 @@ use sim_store::Shelf;
 use sim_system::{Rig, System};
 use std::alloc::Global;
 
-impl Hall<'_> {
+impl Equipment<'_> {
     /// Stores the state of a turn of the match of a file.
     pub fn store<'w, S: Shelf>(
         &mut self,
@@ -56,7 +56,7 @@ pub fn reached<'w>(setup: &Setup, turn: u32) -> Result<(), Stop<'w>>
     Ok(())
 }
 
-impl Hall<'_> {
+impl Equipment<'_> {
     // Stores the state of a turn that the match has.
     fn stored_at<'w>(
         &self,

@@ -6,7 +6,7 @@ ghost use Rattle.sim_top.specs.{Returning.RigsCameBack, Words.to_try};
 ghost use Rattle.sim_top.specs.Common.{after, File, IsTrial, IsValid, own_turns, systems_of, trial_line};
 ghost use Rattle.sim_play.specs.Playing.{MayBegin};
 
-use super::{Answer, Hall, shown};
+use super::{Answer, Equipment, shown};
 use crate::inputs::trial_match;
 use crate::rigs::{put_first, take_first};
 use crate::stop::Stop;
@@ -15,7 +15,7 @@ use sim_play::{push_trial, state_at};
 use sim_system::{Rig, System};
 use std::alloc::Global;
 
-impl Hall<'_> {
+impl Equipment<'_> {
     /// Plays the match of a trial, which has a seed, so many soldiers and so many turns.
     pub fn trial<'w>(&mut self, numbers: (u32, u32, u32)) -> Result<Answer<'w>, Stop<'w>>
         requires limits { IsTrial numbers.0 numbers.1 numbers.2 }

@@ -55,7 +55,7 @@ pub returns-clause-back : goal.returns-clause-back
 returns-clause-back g c =
     rigs_later (λ i v. (goal.System-dyn g (i, v)).meaning v) (asked_by (words_of c.args.words.now)) (g.S.Shelf.held c.args.shelf.now)
     c.made_answer-answer.result.status c.finish-status.result
-    c.args.rigs c.made_answer-answer.new.hall.rigs (λ settled. (c.finish-status.ensures.settled settled).0) c.made_answer-answer.ensures.back
+    c.args.rigs c.made_answer-answer.new.equipment.rigs (λ settled. (c.finish-status.ensures.settled settled).0) c.made_answer-answer.ensures.back
 
 -- what was told of a session is its text, which the laws of sessions are about
 pub returns-clause-headline : goal.returns-clause-headline
@@ -65,7 +65,7 @@ returns-clause-headline g c =
     let now = scene (g.S.Shelf.held c.finish-status.new.shelf) (g.K.Sink.told c.finish-status.new.out) (g.S.Shelf.counts c.finish-status.new.shelf)
     (g.K.Sink.faults c.finish-status.new.out) in
     let hosted = λ (setup : Setup) (list : StepList). IsHostedBy (λ i v. (goal.System-dyn g (i, v)).meaning v) setup list c.args.rigs.items
-    c.made_answer-answer.new.hall.rigs.items in
+    c.made_answer-answer.new.equipment.rigs.items in
     let rigs = returns-clause-back g c in
     Told-both (λ files. Meets c.finish-status.result words files before now) (λ files. HasEnded c.finish-status.result
     → OfSession files (asked_by words) hosted)
