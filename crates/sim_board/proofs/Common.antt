@@ -20,6 +20,6 @@ pub use Rattle.sim_scene.proofs.{FactLists.facts-unchanged, InRange.state_in_ran
 pub use Rattle.sim_scene.proofs.Removing.{first_told, id_is_some, left_told, let_go_state, released_is_state, removed_is_left, then_watching}
 pub use Rattle.sim_scene.specs.{Releases.AreWatching, Releases.release_all, SceneWords.IsStanding}
 pub use Rattle.sim_system.specs.{Facts.fact_of, Facts.facts_of, Notes.noted, Notes.NoteFits, Posts.hears, Posts.posts, Posts.posts_born, Posts.posts_on}
-pub use Rattle.sim_system.specs.Meanings.{AreFed, four, IsBuiltOnceAtMost, IsFed, MayHear, Meaning, one_more, Systems, told}
+pub use Rattle.sim_system.specs.Meanings.{AreBuiltOnce, AreBuiltOnceAtMost, AreFed, four, IsBuiltOnceAtMost, IsFed, MayHear, Meaning, one_more, Systems, told}
 pub use Rattle.sim_system.specs.declared.kind.Kind.{Kind, TheVariants.Census, TheVariants.Ground, TheVariants.Range, TheVariants.Watch}
 pub use Rattle.sim_system.specs.declared.note.Note.{Note, TheVariants.Aimed, TheVariants.Born, TheVariants.Gone, TheVariants.Moved, TheVariants.Owned}

@@ -198,23 +198,6 @@ module _ (setup : Setup) (state : State) (id : ℕ) (ids : List ℕ) (n w : ℕ)
             (then_watching (release_all (take n ids) state) id w (drop (suc n) ids) watching_here);
       })
 
-pub kept_watch : (s t : Systems) (m : Meaning) (note : Note) → AreKept s t → m ≡ told t.watch note → AreKept s (four t.ground t.range m t.census)
-kept_watch s t m note kept is = record {
-  kinds = record {
-    ground = kept.kinds.ground;
-    range = kept.kinds.range;
-    watch = ap (λ (x : Meaning). x.kind) is ∙ kept.kinds.watch;
-    census = kept.kinds.census;
-  };
-  rebuilds = record {
-    ground = kept.rebuilds.ground;
-    range = kept.rebuilds.range;
-    watch = ap (λ (x : Meaning). x.rebuilds) is ∙ kept.rebuilds.watch;
-    census =
-        kept.rebuilds.census;
-  };
-}
-
 -- ---- a removal
 
 module _ (setup : Setup) (state : State) (id : ℕ) (row : Row) (valid : IsLooselyValid setup state) (found : row_of state id ≡ Some row) where

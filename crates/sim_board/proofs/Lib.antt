@@ -5,4 +5,5 @@ pub mod Setting
 pub mod Letting
 pub mod Standing
 pub mod Counting
+pub mod Keeping
 pub mod Quieting

@@ -3,3 +3,5 @@ pub mod ChangeKinds
 pub mod Hearing
 pub mod Letting
 pub mod Leading
+pub mod Boards
+pub mod Stepping

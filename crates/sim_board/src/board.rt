@@ -1,17 +1,15 @@
 //! The calls of a board.
 
-ghost use Rattle.{sim_board.specs.ChangeKinds.KeepsTarget, sim_board.specs.ChangeKinds.NeedsNoMemory, sim_scene.specs.SceneWords.Stands};
-ghost use Rattle.{sim_board.specs.Leading.LeadsOn, sim_plans.specs.Fits.AllFit};
-ghost use Rattle.std.specs.Prelude.{◌≡◌, ◌≤◌, true, false, [], length, drop, OnOk, OnErr, IsOk};
-ghost use Rattle.sim_base.specs.{Changes.applied, Limits.IsSetup, Turn.first_state as first_state_of, Validity.IsValid};
-ghost use Rattle.sim_board.specs.BoardWords.{AreKept, is_whole, IsWhole, rig_in, setup_in, state_in, systems};
-ghost use Rattle.sim_plans.specs.Fits.{Fits};
-ghost use Rattle.sim_system.specs.Meanings.{AreBuiltOnce, AreBuiltOnceAtMost, HaveKinds};
+ghost use Rattle.{sim_board.specs.Leading.LeadsOn, sim_scene.specs.SceneWords.Stands, sim_system.specs.Meanings.HaveKinds};
+ghost use Rattle.std.specs.Prelude.{◌≡◌, ◌≤◌, false, [], length, drop};
+ghost use Rattle.sim_base.specs.{Limits.IsSetup, Turn.first_state as first_state_of, Validity.IsValid};
+ghost use Rattle.sim_board.specs.Boards.{Begins, Makes};
+ghost use Rattle.sim_board.specs.BoardWords.{is_whole, IsWhole, rig_in, setup_in, state_in, systems};
+ghost use Rattle.sim_plans.specs.Fits.{AllFit, Fits};
 
 use crate::build::build;
 use crate::first::first_state;
 use crate::quiet::keep_aims;
-use crate::step::step;
 use sim_base::{Change, Items, OutOfMemory, Setup, State};
 use sim_scene::Scene;
 use sim_system::{Rig, System};
@@ -21,12 +19,12 @@ use std::alloc::Global;
 /// state. Where the row of the last change stood is a hint for the next.
 #[derive(Drop)]
 pub struct Board<'a> {
-    alloc: Global,
-    setup: &'a Setup,
-    state: State,
-    rig: Rig,
-    near: usize,
-    whole: bool,
+    pub(crate) alloc: Global,
+    pub(crate) setup: &'a Setup,
+    pub(crate) state: State,
+    pub(crate) rig: Rig,
+    pub(crate) near: usize,
+    pub(crate) whole: bool,
 }
 
 impl<'a> Board<'a> {
@@ -60,9 +58,9 @@ impl<'a> Board<'a> {
         self.setup
     }
 
-    /// Whether its last start, adoption or change came to its end. Right after one of these calls, true tells that its clause
-    /// `whole` holds, since the clause `err` has it false where memory was wanting. A turn is many changes and more, and where it
-    /// found no memory this tells nothing of it.
+    /// Whether its last start, adoption or change came to its end. Right after one of these calls, true tells that `whole` of its
+    /// clause holds, since `err` has it false where memory was wanting. A turn is many changes and more, and where it found no
+    /// memory this tells nothing of it.
     pub fn whole(&self) -> bool
         ensures { result ≡ is_whole self.now }
     {
@@ -73,13 +71,7 @@ impl<'a> Board<'a> {
     pub fn start(&mut self) -> Result<(), OutOfMemory>
         requires limits { IsSetup (setup_in self.old) }
         requires kinds { HaveKinds (systems self.old ⟦<dyn System as System>⟧) }
-        ensures state { OnOk result (state_in self.new ≡ first_state_of (setup_in self.old)) }
-        ensures whole { OnOk result (IsWhole self.new ⟦<dyn System as System>⟧) }
-        ensures err { OnErr result (is_whole self.new ≡ false) }
-        ensures kinds { HaveKinds (systems self.new ⟦<dyn System as System>⟧) }
-        ensures once { OnOk result (AreBuiltOnce (systems self.old ⟦<dyn System as System>⟧) (systems self.new ⟦<dyn System as System>⟧)) }
-        ensures most { AreBuiltOnceAtMost (systems self.old ⟦<dyn System as System>⟧) (systems self.new ⟦<dyn System as System>⟧) }
-        ensures setup { setup_in self.new ≡ setup_in self.old }
+        ensures { Begins result (first_state_of (setup_in self.old)) self.old self.new ⟦<dyn System as System>⟧ }
     {
         self.whole = false;
         let state = first_state(self.alloc, self.setup)?;
@@ -91,13 +83,7 @@ impl<'a> Board<'a> {
         requires limits { IsSetup (setup_in self.old) }
         requires valid { IsValid (setup_in self.old) state }
         requires kinds { HaveKinds (systems self.old ⟦<dyn System as System>⟧) }
-        ensures state { OnOk result (state_in self.new ≡ state) }
-        ensures whole { OnOk result (IsWhole self.new ⟦<dyn System as System>⟧) }
-        ensures err { OnErr result (is_whole self.new ≡ false) }
-        ensures kinds { HaveKinds (systems self.new ⟦<dyn System as System>⟧) }
-        ensures once { OnOk result (AreBuiltOnce (systems self.old ⟦<dyn System as System>⟧) (systems self.new ⟦<dyn System as System>⟧)) }
-        ensures most { AreBuiltOnceAtMost (systems self.old ⟦<dyn System as System>⟧) (systems self.new ⟦<dyn System as System>⟧) }
-        ensures setup { setup_in self.new ≡ setup_in self.old }
+        ensures { Begins result state self.old self.new ⟦<dyn System as System>⟧ }
     {
         self.whole = false;
         self.state = state;
@@ -110,13 +96,7 @@ impl<'a> Board<'a> {
     pub fn apply(&mut self, change: Change) -> Result<(), OutOfMemory>
         requires whole { IsWhole self.old ⟦<dyn System as System>⟧ }
         requires fits { Fits (setup_in self.old) (state_in self.old) change }
-        ensures state { OnOk result (state_in self.new ≡ applied (setup_in self.old) (state_in self.old) change) }
-        ensures whole { OnOk result (IsWhole self.new ⟦<dyn System as System>⟧) }
-        ensures err { OnErr result (is_whole self.new ≡ false) }
-        ensures sure { NeedsNoMemory change → IsOk result }
-        ensures untold { KeepsTarget (state_in self.old) change → IsOk result }
-        ensures kept { AreKept (systems self.old ⟦<dyn System as System>⟧) (systems self.new ⟦<dyn System as System>⟧) }
-        ensures setup { setup_in self.new ≡ setup_in self.old }
+        ensures { Makes result change self.old self.new ⟦<dyn System as System>⟧ }
     {
         let mut change = change;
         self.make(&mut change)
@@ -127,23 +107,10 @@ impl<'a> Board<'a> {
     pub fn make(&mut self, change: &mut Change) -> Result<(), OutOfMemory>
         requires whole { IsWhole self.old ⟦<dyn System as System>⟧ }
         requires fits { Fits (setup_in self.old) (state_in self.old) change.old }
-        ensures state { OnOk result (state_in self.new ≡ applied (setup_in self.old) (state_in self.old) change.old) }
-        ensures whole { OnOk result (IsWhole self.new ⟦<dyn System as System>⟧) }
-        ensures err { OnErr result (is_whole self.new ≡ false) }
-        ensures sure { NeedsNoMemory change.old → IsOk result }
-        ensures untold { KeepsTarget (state_in self.old) change.old → IsOk result }
-        ensures kept { AreKept (systems self.old ⟦<dyn System as System>⟧) (systems self.new ⟦<dyn System as System>⟧) }
-        ensures setup { setup_in self.new ≡ setup_in self.old }
+        ensures { Makes result change.old self.old self.new ⟦<dyn System as System>⟧ }
     {
         self.whole = false;
-        step(
-            self.alloc,
-            self.setup,
-            &mut self.state,
-            &mut self.rig,
-            &mut self.near,
-            change,
-        )?;
+        self.step(change)?;
         self.whole = true;
         Ok(())
     }

@@ -8,7 +8,8 @@ ghost use Rattle.sim_board.specs.{ChangeKinds.IsNoCreation, ChangeKinds.IsNoRemo
 use crate::edit::{
     add_row, release_rows, set_at, set_attack, set_health, set_motion, set_owner, take_row,
 };
-use sim_base::{Change, Items, Motion, OutOfMemory, Point, Row, Setup, State};
+use crate::row::Birth;
+use sim_base::{Change, Items, Motion, OutOfMemory, Row, Setup, State};
 use std::alloc::Global;
 
 /// The state after a change that fits it, where no row leaves. A motion is taken out of the change.
@@ -32,7 +33,12 @@ pub fn make(
         owner,
     } = change
     {
-        return create(alloc, setup, state, *template, at, *owner);
+        let birth = Birth {
+            number: *template,
+            at: *at,
+            owner: *owner,
+        };
+        return create(alloc, setup, state, &birth);
     }
     let mut rows = take_rows(alloc, state);
     set(&mut rows, state, change, near);
@@ -88,18 +94,16 @@ pub fn create(
     alloc: Global,
     setup: &Setup,
     state: &mut State,
-    number: u16,
-    at: &Point,
-    owner: u8,
+    birth: &Birth,
 ) -> Result<(), OutOfMemory>
-    requires number { number < length setup.now.templates }
+    requires number { birth.now.number < length setup.now.templates }
     requires next { state.old.next < 0x20000000 }
-    ensures { OnOk result (state.new ≡ created setup.now state.old number at.now owner) }
+    ensures { OnOk result (state.new ≡ created setup.now state.old birth.now.number birth.now.at birth.now.owner) }
 {
-    let template = &setup.templates.as_slice()[usize::from(number)];
+    let template = &setup.templates.as_slice()[usize::from(birth.number)];
     let id = state.next;
     let mut rows = take_rows(alloc, state);
-    let added = add_row(&mut rows, id, number, at, owner, template);
+    let added = add_row(&mut rows, id, birth, template);
     state.rows = Items::from_items(rows);
     added?;
     state.next = id + 1;

@@ -6,6 +6,7 @@ ghost use Rattle.std.specs.Prelude.{◌≡◌, not, [], ◌∷◌, ◌++◌, map
 ghost use Rattle.sim_base.specs.{Changes.new_row as row_made, Changes.released as released_by, Rows.id_of, declared.state.Row.Row as AnyRow};
 
 use crate::near::place_near;
+use crate::row::Birth;
 use sim_base::{Aim, Fixed, Motion, OutOfMemory, Point, Row, Template};
 
 /// The row with this id stands at a point.
@@ -108,18 +109,17 @@ pub fn take_row(rows: &mut Vec<Row>, id: u32, near: usize)
 pub fn add_row(
     rows: &mut Vec<Row>,
     id: u32,
-    number: u16,
-    at: &Point,
-    owner: u8,
+    birth: &Birth,
     template: &Template,
 ) -> Result<(), OutOfMemory>
-    ensures { OnOk result (rows.new.items ≡ rows.old.items ++ row_made id number at.now owner template.now ∷ []) }
+    ensures { let b = birth.now in
+        OnOk result (rows.new.items ≡ rows.old.items ++ row_made id b.number b.at b.owner template.now ∷ []) }
 {
     rows.push(Row {
         id,
-        template: number,
-        at: *at,
-        owner,
+        template: birth.number,
+        at: birth.at,
+        owner: birth.owner,
         health: template.health,
         motion: template.speed.map(|_| Motion::Still),
         attack: template.arms.map(|_| Aim {

@@ -4,6 +4,7 @@ ghost use Rattle.std.specs.Prelude.{◌≡◌, IfOk};
 ghost use Rattle.sim_base.specs.{Limits.IsSetup, Turn.first_state as first_state_of, Validity.IsValid};
 
 use crate::change::create;
+use crate::row::Birth;
 use sim_base::{Items, OutOfMemory, Setup, State};
 use std::alloc::Global;
 
@@ -20,14 +21,12 @@ pub fn first_state(alloc: Global, setup: &Setup) -> Result<State, OutOfMemory>
         rows: Items::new(alloc),
     };
     for first in setup.first.as_slice() {
-        create(
-            alloc,
-            setup,
-            &mut state,
-            first.template,
-            &first.at,
-            first.owner,
-        )?;
+        let birth = Birth {
+            number: first.template,
+            at: first.at,
+            owner: first.owner,
+        };
+        create(alloc, setup, &mut state, &birth)?;
     }
     Ok(state)
 }

@@ -1,10 +1,8 @@
 //! A board over a list of changes: whatever is applied after a start or an adoption, its scene stands.
 
-ghost use Rattle.std.specs.Prelude.{◌≡◌, false, OnOk, OnErr};
 ghost use Rattle.sim_base.specs.{Changes.applied_all, Limits.IsSetup, Turn.first_state, Validity.IsValid};
-ghost use Rattle.sim_board.specs.BoardWords.{AreKept, is_whole, IsWhole, setup_in, state_in, systems};
-ghost use Rattle.sim_plans.specs.Fits.{AllFit};
-ghost use Rattle.sim_system.specs.Meanings.{AreBuiltOnce, AreBuiltOnceAtMost, HaveKinds};
+ghost use Rattle.sim_board.specs.{Boards.Begins, Boards.MakesAll, BoardWords.IsWhole, BoardWords.setup_in, BoardWords.state_in, BoardWords.systems};
+ghost use Rattle.{sim_plans.specs.Fits.AllFit, sim_system.specs.Meanings.HaveKinds};
 
 use crate::board::Board;
 use sim_base::{Changes, OutOfMemory, State};
@@ -15,11 +13,7 @@ use sim_system::System;
 pub fn apply_all(board: &mut Board<'_>, changes: Changes) -> Result<(), OutOfMemory>
     requires whole { IsWhole board.old ⟦<dyn System as System>⟧ }
     requires fit { AllFit (setup_in board.old) (state_in board.old) changes }
-    ensures state { OnOk result (state_in board.new ≡ applied_all (setup_in board.old) (state_in board.old) changes) }
-    ensures whole { OnOk result (IsWhole board.new ⟦<dyn System as System>⟧) }
-    ensures err { OnErr result (is_whole board.new ≡ false) }
-    ensures kept { AreKept (systems board.old ⟦<dyn System as System>⟧) (systems board.new ⟦<dyn System as System>⟧) }
-    ensures setup { setup_in board.new ≡ setup_in board.old }
+    ensures { MakesAll result changes board.old board.new ⟦<dyn System as System>⟧ }
 {
     let mut changes = changes.into_items();
     let kept = board.keep_aims(changes.as_slice());
@@ -34,13 +28,7 @@ pub fn start_and_apply(board: &mut Board<'_>, changes: Changes) -> Result<(), Ou
     requires limits { IsSetup (setup_in board.old) }
     requires kinds { HaveKinds (systems board.old ⟦<dyn System as System>⟧) }
     requires fit { AllFit (setup_in board.old) (first_state (setup_in board.old)) changes }
-    ensures state { OnOk result (state_in board.new ≡ applied_all (setup_in board.old) (first_state (setup_in board.old)) changes) }
-    ensures whole { OnOk result (IsWhole board.new ⟦<dyn System as System>⟧) }
-    ensures err { OnErr result (is_whole board.new ≡ false) }
-    ensures once { OnOk result (AreBuiltOnce (systems board.old ⟦<dyn System as System>⟧) (systems board.new ⟦<dyn System as System>⟧)) }
-    ensures most { AreBuiltOnceAtMost (systems board.old ⟦<dyn System as System>⟧) (systems board.new ⟦<dyn System as System>⟧) }
-    ensures kinds { HaveKinds (systems board.new ⟦<dyn System as System>⟧) }
-    ensures setup { setup_in board.new ≡ setup_in board.old }
+    ensures { Begins result (applied_all (setup_in board.old) (first_state (setup_in board.old)) changes) board.old board.new ⟦<dyn System as System>⟧ }
 {
     board.start()?;
     apply_all(board, changes)
@@ -56,13 +44,7 @@ pub fn adopt_and_apply(
     requires valid { IsValid (setup_in board.old) state }
     requires kinds { HaveKinds (systems board.old ⟦<dyn System as System>⟧) }
     requires fit { AllFit (setup_in board.old) state changes }
-    ensures state { OnOk result (state_in board.new ≡ applied_all (setup_in board.old) state changes) }
-    ensures whole { OnOk result (IsWhole board.new ⟦<dyn System as System>⟧) }
-    ensures err { OnErr result (is_whole board.new ≡ false) }
-    ensures once { OnOk result (AreBuiltOnce (systems board.old ⟦<dyn System as System>⟧) (systems board.new ⟦<dyn System as System>⟧)) }
-    ensures most { AreBuiltOnceAtMost (systems board.old ⟦<dyn System as System>⟧) (systems board.new ⟦<dyn System as System>⟧) }
-    ensures kinds { HaveKinds (systems board.new ⟦<dyn System as System>⟧) }
-    ensures setup { setup_in board.new ≡ setup_in board.old }
+    ensures { Begins result (applied_all (setup_in board.old) state changes) board.old board.new ⟦<dyn System as System>⟧ }
 {
     board.adopt(state)?;
     apply_all(board, changes)

@@ -11,6 +11,14 @@ use sim_plans::{arms_of, target_of, template_at};
 use sim_system::{Fact, Facts};
 use std::alloc::Global;
 
+/// What a row that is made is given: the number of its template, its place and its owner.
+#[derive(Clone, Copy, Debug)]
+pub struct Birth {
+    pub number: u16,
+    pub at: Point,
+    pub owner: u8,
+}
+
 /// The row with this id, which is alive. Near which place it stands is a hint.
 pub fn living(state: &State, id: u32, near: usize) -> &Row
     requires ids { IsStrictlyIncreasing (map id_of state.now.rows) }
@@ -75,21 +83,22 @@ pub fn told(alloc: Global, setup: &Setup, state: &State) -> Result<Facts, OutOfM
 }
 
 /// What systems are told of a new row of a known template.
-pub fn born(setup: &Setup, id: u32, number: u16, at: &Point, owner: u8) -> Fact
-    requires number { number < length setup.now.templates }
-    requires at { IsPlaced at.now }
-    ensures { (t : AnyTemplate) → slice_get setup.now.templates number ≡ Some t → result ≡ fact_by setup.now (new_row id number at.now owner t) }
+pub fn born(setup: &Setup, id: u32, birth: &Birth) -> Fact
+    requires number { birth.now.number < length setup.now.templates }
+    requires at { IsPlaced birth.now.at }
+    ensures { let b = birth.now in
+        (t : AnyTemplate) → slice_get setup.now.templates b.number ≡ Some t → result ≡ fact_by setup.now (new_row id b.number b.at b.owner t) }
 {
-    let template = &setup.templates.as_slice()[usize::from(number)];
+    let template = &setup.templates.as_slice()[usize::from(birth.number)];
     Fact {
         id,
-        at: *at,
-        owner,
+        at: birth.at,
+        owner: birth.owner,
         health: template.health.is_some(),
         vision: template.arms.map(|arms| arms.vision),
         rect: template
             .obstruct
-            .map(|base| rect_of(*at, base.width, base.depth)),
+            .map(|base| rect_of(birth.at, base.width, base.depth)),
         target: 0,
     }
 }

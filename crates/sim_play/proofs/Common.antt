@@ -18,7 +18,7 @@ pub use Rattle.sim_play.specs.Common.{after, amount_of, AreFed, AreKept, books_a
 pub use Rattle.sim_play.specs.Common.{holding_line, is_set, is_visible, IsEconomy, IsOrderOf, IsSetup, IsValid, joined_at, kept_past, Log, one_if, orders_at}
 pub use Rattle.sim_play.specs.Common.{own_turns, paid_turn, Past, PlayerCommand, range_with_len, realm_of, RealmOf, Setup, setup_in, sight_lines, sight_text}
 pub use Rattle.sim_play.specs.Films.{frame_at, frame_text, frames, is_told, last_state, told_frame, told_turns}
-pub use Rattle.sim_system.specs.{Meanings.Systems, RigWords.systems_by}
+pub use Rattle.sim_system.specs.RigWords.{systems_by}
 pub use Rattle.sim_vision.proofs.{After.explored_start, Telling.told_from_a_file, Telling.told_from_the_start}
 pub use Rattle.sim_vision.specs.{After.blind, After.last_of, Told.explored_file, Vision.Vision}
 unfoldable pub use Rattle.sim_play.specs.Common.{digest}

@@ -1,14 +1,7 @@
 -- One paid turn more of a match: its books, its number and its line.
-use Rattle.sim_play.proofs.Common.{append_assoc, AreFed, AreKept, Books, books_after, books_of, digest, Economy, kept_past, orders_at, paid_lines, paid_state}
-use Rattle.sim_play.proofs.Common.{paid_stocks, paid_turn, Setup, State, states_are_after, Stocks, sym, Systems, turn_line, turns_in, ◌∙◌, ◌≡◌, ℕ, zero, suc}
+use Rattle.sim_play.proofs.Common.{append_assoc, Books, books_after, books_of, digest, Economy, kept_past, orders_at, paid_lines, paid_state}
+use Rattle.sim_play.proofs.Common.{paid_stocks, paid_turn, Setup, State, states_are_after, Stocks, sym, turn_line, turns_in, ◌∙◌, ◌≡◌, ℕ, zero, suc}
 use Rattle.sim_play.proofs.Common.{◌+◌, List, ◌++◌, IfOk, Ok, Err, codes, Result, refl, after_counts_turns, ap, append-nil}
-
--- systems that nothing was told yet
-pub kept_so_far : (setup : Setup) (state : State) (s : Systems) → AreFed setup state s → AreKept s s
-kept_so_far setup state s fed = record {
-  kinds = record { ground = fed.ground.kinds; range = fed.range.kinds; watch = fed.watch.kinds; census = fed.census.kinds };
-  rebuilds = record { ground = refl; range = refl; watch = refl; census = refl };
-}
 
 module _ (setup : Setup) (economy : Economy) where
   kept_turns : (n : ℕ) → turns_in (kept_past setup economy n) ≡ n

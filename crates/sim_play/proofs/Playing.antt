@@ -1,8 +1,9 @@
 -- One turn more is played, and what becomes of the systems.
-use Rattle.sim_system.specs.Meanings.{AreBuiltOnceAtMost, IsBuiltOnceAtMost, Meaning}
+use Rattle.sim_board.proofs.Counting.{most_kept}
+use Rattle.sim_system.specs.Meanings.{AreBuiltOnceAtMost, Meaning}
 use Rattle.sim_play.proofs.Common.{OnOk, Result, setup_in, state_in, subst, systems_by}
 use Rattle.{sim_board.specs.declared.board.Board.Board, sim_play.specs.Playing.ComesToBy, sim_play.specs.Playing.GoesOnToBy}
-use Rattle.sim_play.proofs.Common.{◌≡◌, ℕ, suc, ◌+◌, ◌-◌, ap, AreKept, arith, from, from_counts_turns, orders_at, own_turns, Setup, State, Systems, turn, ◌∙◌}
+use Rattle.sim_play.proofs.Common.{◌≡◌, ℕ, suc, ◌+◌, ◌-◌, ap, arith, from, from_counts_turns, orders_at, own_turns, Setup, State, turn, ◌∙◌}
 
 module _ (setup : Setup) (old new : State) (t : ℕ) (at : old.turn ≡ t) (is : new ≡ from setup old (own_turns setup old.turn (t + 1 - old.turn))) where
   one : t + 1 - old.turn ≡ 1
@@ -23,18 +24,6 @@ module _ (setup : Setup) (old new : State) (t : ℕ) (at : old.turn ≡ t) (is :
   pub next_number : new.turn ≡ t + 1
   next_number = ap (λ (s : State). s.turn) is ∙ ap (λ (k : ℕ). (from setup old (own_turns setup old.turn k)).turn) one ∙
       from_counts_turns setup old (own_turns setup old.turn 1) ∙ ap (λ (k : ℕ). k + 1) at
-
--- systems of which each was built once at most, and that were kept since
-pub most_kept : (s t u : Systems) → AreBuiltOnceAtMost s t → AreKept t u → AreBuiltOnceAtMost s u
-most_kept s t u most kept = record {
-  ground = one s.ground t.ground u.ground most.ground kept.rebuilds.ground;
-  range = one s.range t.range u.range most.range kept.rebuilds.range;
-  watch = one s.watch t.watch u.watch most.watch kept.rebuilds.watch;
-  census = one s.census t.census u.census most.census kept.rebuilds.census;
-}
-  where
-    one : (m n o : Meaning) → IsBuiltOnceAtMost m n → o.rebuilds ≡ n.rebuilds → IsBuiltOnceAtMost m o
-    one m n o most same = record { low = omega (arith, most.low, same); high = omega (arith, most.high, same) }
 
 -- a board that began, or took a state, and then went on
 pub came : {X : Type 0} {F : X → Type 0} {A E : Type 0} (meaning : (i : X) → F i → Meaning) (last wanted : State) (outcome : Result A E)

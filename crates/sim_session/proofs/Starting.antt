@@ -2,10 +2,7 @@
 use Rattle.sim_session.proofs.Common.{ChangeAt, inl, inr, Life, life_of, Off, StartsOnly, subst, sym, Systems, ◌∙◌}
 use Rattle.sim_session.proofs.Common.{◌≡◌, ℕ, ◌+◌, ◌-◌, ◌<◌, ◌≤◌, ◌⊎◌, List, map, length, get_or, set, refl, ap, AreBuilt, AreBuiltOnceAtMost, arith, cases_lt}
 use Rattle.sim_session.proofs.Seating.{put_elsewhere, put_there, was_there}
-use Rattle.sim_board.proofs.Counting.{not_built}
-
-pub built_same : (s : Systems) → AreBuiltOnceAtMost s s
-built_same s = record { ground = not_built s.ground; range = not_built s.range; watch = not_built s.watch; census = not_built s.census }
+pub use Rattle.sim_board.proofs.Counting.{built_same}
 
 pub starts_none : (s : List Systems) → StartsOnly 0 s s
 starts_none s = record { count = refl; there = λ i d none low. absurd (omega (arith, none)); others = λ i d low. refl }

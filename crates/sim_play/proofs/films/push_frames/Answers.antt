@@ -2,7 +2,7 @@
 use Rattle.sim_play.proofs.{Common.told_frame, Common.◌∙◌, Past.own_at, Past.own_more, Playing.next_number, ToldTurns.film_more}
 use Rattle.sim_play.proofs.Common.{◌≡◌, ◌+◌, ◌-◌, ◌++◌, string_bytes, refl, after, ap, append-nil, from, IsValid, own_turns, Setup, State, subst, sym}
 use Rattle.sim_play.proofs.films.push_frames.Goals as goal
-use Rattle.sim_turn.proofs.Keeping.{kept_on}
+use Rattle.sim_board.proofs.Keeping.{kept_on}
 
 pub loop-turn-init : goal.loop-turn-init
 loop-turn-init g c =

@@ -1,5 +1,5 @@
 -- One turn more is played, and followed.
-use Rattle.{sim_play.proofs.Later.followed_more, sim_play.proofs.Playing.next_number, sim_play.proofs.Playing.one_turn_more, sim_turn.proofs.Keeping.kept_on}
+use Rattle.{sim_board.proofs.Keeping.kept_on, sim_play.proofs.Later.followed_more, sim_play.proofs.Playing.next_number, sim_play.proofs.Playing.one_turn_more}
 use Rattle.sim_play.proofs.Common.{◌≡◌, ℕ, suc, ◌+◌, ◌-◌, refl, ap, arith, from, IsValid}
 use Rattle.sim_play.proofs.Common.{later_of, own_turns, rules, Setup, State, subst, sym, vision_after, vision_next, ◌∙◌}
 use Rattle.sim_play.proofs.following.follow_until.Goals as goal

@@ -2,7 +2,7 @@
 use Rattle.sim_play.proofs.{Common.turn_line, Common.turn_lines, Common.◌∙◌, PlayLines.lines_more, Playing.next_number, Playing.one_turn_more}
 use Rattle.sim_play.proofs.Common.{◌≡◌, ℕ, suc, ◌+◌, ◌-◌, ◌++◌, string_bytes, codes, ap, arith, digest, from, IsValid, own_turns, Setup, State, subst, sym}
 use Rattle.sim_play.proofs.lines.push_turns.Goals as goal
-use Rattle.sim_turn.proofs.Keeping.{kept_on}
+use Rattle.sim_board.proofs.Keeping.{kept_on}
 
 pub loop-turn-preserved : goal.loop-turn-preserved
 loop-turn-preserved g c =

@@ -1,9 +1,9 @@
 -- The first state has its digest; then one turn more is played, and its state has one too.
-use Rattle.sim_play.proofs.{LogTurns.digests_more, LogTurns.state_more, LogTurns.turn_at, PaidOnes.kept_so_far}
+use Rattle.sim_play.proofs.{LogTurns.digests_more, LogTurns.state_more, LogTurns.turn_at}
 use Rattle.sim_play.proofs.Common.{digest, IsValid, PlayerCommand, rig_in, Setup, setup_in, State, state_after, state_in, subst, systems_by, turn, ◌∙◌}
 use Rattle.sim_play.proofs.Common.{◌≡◌, ℕ, ◌+◌, ◌<◌, List, [], ◌∷◌, ◌++◌, length, take, refl, ap, arith, rules, sym}
 use Rattle.sim_play.proofs.logs.play_turns.Goals as goal
-use Rattle.sim_turn.proofs.Keeping.{kept_on}
+use Rattle.sim_board.proofs.Keeping.{kept_fed, kept_on}
 
 pub loop-commands-init : goal.loop-commands-init
 loop-commands-init g c =
@@ -21,7 +21,7 @@ loop-commands-init g c =
       valid = c.requires.begun.valid;
       same = refl;
       whole = c.requires.begun.whole;
-      kept = kept_so_far setup start (systems_by (rig_in c.args.board.now) (λ i v. (goal.System-dyn g (i, v)).meaning v)) c.requires.begun.whole.standing.fed;
+      kept = kept_fed setup start (systems_by (rig_in c.args.board.now) (λ i v. (goal.System-dyn g (i, v)).meaning v)) c.requires.begun.whole.standing.fed;
     }
 
 pub turn-requires-clause-below : goal.turn-requires-clause-below

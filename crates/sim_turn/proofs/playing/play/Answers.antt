@@ -1,5 +1,5 @@
 -- One turn more of the match's own.
-use Rattle.sim_turn.proofs.{Counting.joined, Counting.orders_keep_turn, Counting.players_at, Keeping.kept_on}
+use Rattle.{sim_board.proofs.Keeping.kept_on, sim_turn.proofs.Counting.joined, sim_turn.proofs.Counting.orders_keep_turn, sim_turn.proofs.Counting.players_at}
 use Rattle.sim_turn.proofs.Common.{setup_in, State, state_in, subst, sym, Timed, turn, turn_is_counted, turn_keeps_valid, ◌∙◌}
 use Rattle.sim_turn.proofs.Common.{◌≡◌, ℕ, suc, ◌+◌, ◌-◌, ◌<◌, ◌≤◌, map, fold, All, ap, arith, commanded, from, IsOrderOf, IsValid, orders_at, own_turns, Setup}
 use Rattle.sim_turn.proofs.playing.play.Goals as goal

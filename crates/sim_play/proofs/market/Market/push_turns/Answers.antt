@@ -1,9 +1,9 @@
 -- The first state has its line, and one paid turn more is played and has its line.
 use Rattle.sim_play.proofs.Common.{paid_state, rules, paid_lines, paid_turn, rig_in, Setup, setup_in, State, state_in, subst, sym, systems_by, turn_line, ◌∙◌}
 use Rattle.sim_play.proofs.Common.{◌≡◌, ℕ, suc, ◌+◌, ◌++◌, string_bytes, codes, refl, ap, arith, books_after, books_of, digest, IsEconomy, IsValid, orders_at}
-use Rattle.sim_play.proofs.PaidOnes.{books_more, books_state, books_turn, first_line, kept_so_far, paid_lines_more}
+use Rattle.sim_play.proofs.PaidOnes.{books_more, books_state, books_turn, first_line, paid_lines_more}
 use Rattle.sim_play.proofs.market.Market.push_turns.Goals as goal
-use Rattle.sim_turn.proofs.Keeping.{kept_on}
+use Rattle.sim_board.proofs.Keeping.{kept_fed, kept_on}
 
 pub loop-turn-init : goal.loop-turn-init
 loop-turn-init g c =
@@ -25,7 +25,7 @@ loop-turn-init g c =
       valid = c.requires.begun.valid;
       same = refl;
       whole = c.requires.begun.whole;
-      kept = kept_so_far setup start (systems_by (rig_in c.args.board.now) (λ i v. (goal.System-dyn g (i, v)).meaning v)) c.requires.begun.whole.standing.fed;
+      kept = kept_fed setup start (systems_by (rig_in c.args.board.now) (λ i v. (goal.System-dyn g (i, v)).meaning v)) c.requires.begun.whole.standing.fed;
     }
 
 pub play_turn-requires-clause-goes_on : goal.play_turn-requires-clause-goes_on

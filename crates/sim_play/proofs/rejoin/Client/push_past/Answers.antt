@@ -2,7 +2,7 @@
 use Rattle.sim_play.proofs.{Common.turn_line, Common.◌∙◌, Past.own_more, Past.past_lines-more, Playing.next_number}
 use Rattle.sim_play.proofs.Common.{◌≡◌, ℕ, suc, ◌+◌, ◌-◌, ◌++◌, string_bytes, ap, arith, digest, from, IsValid, own_turns, past_lines, Setup, State, subst, sym}
 use Rattle.sim_play.proofs.rejoin.Client.push_past.Goals as goal
-use Rattle.sim_turn.proofs.Keeping.{kept_on}
+use Rattle.sim_board.proofs.Keeping.{kept_on}
 
 pub loop-number-preserved : goal.loop-number-preserved
 loop-number-preserved g c =

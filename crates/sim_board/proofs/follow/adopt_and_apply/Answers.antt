@@ -1,0 +1,32 @@
+-- No system is built by the changes.
+use Rattle.sim_board.proofs.{Common.sym, Common.◌∙◌, Counting.most_kept, Counting.once_kept}
+use Rattle.sim_board.proofs.follow.adopt_and_apply.Goals as goal
+use Rattle.std.proofs.lemmas.Result.{err_from_is_err_and}
+
+pub returns-in_err-adopt : goal.returns-in_err-adopt
+returns-in_err-adopt g c =
+    let begins = c.in_err-adopt.ensures in
+    let p = err_from_is_err_and c.from_residual.result c.from_residual.ensures.1 in
+    rw p.1 (record {
+      state = tt;
+      whole = tt;
+      err = begins.err;
+      kinds = begins.kinds;
+      once = tt;
+      most = begins.most;
+      setup = begins.setup;
+    })
+
+pub returns : goal.returns
+returns g c =
+    let begins = c.in_ok-adopt.ensures in
+    let makes = c.apply_all.ensures in
+    record {
+      state = rw (sym begins.state) (rw (sym begins.setup) makes.state);
+      whole = makes.whole;
+      err = makes.err;
+      kinds = makes.kept.kinds;
+      once = once_kept c.apply_all.result _ _ _ begins.once makes.kept;
+      most = most_kept _ _ _ begins.most makes.kept;
+      setup = makes.setup ∙ begins.setup;
+    }
