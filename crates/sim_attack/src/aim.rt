@@ -4,7 +4,7 @@
 //! holds its place. So the nearest enemy that one row finds is kept for others of its owner that stand where it stands. A row
 //! that holds its place takes it where it is within range; if it is not, no other is.
 
-ghost use Rattle.{sim_scene.specs.SceneWords.Stands, sim_system.specs.Answers.seen_from};
+ghost use Rattle.{sim_plans.specs.SceneWords.Stands, sim_system.specs.Answers.seen_from};
 ghost use Rattle.std.specs.{Prelude.◌≡◌, Prelude.◌++◌, Prelude.IfOk, Prelude.OnOk, Prelude.IsSome, Prelude.MatchOption, Prelude.Some, Result.ForOk};
 ghost use Rattle.sim_attack.specs.{Finds.AreFound, Finds.nearest_from, Nearest.better_of, Nearest.nearest_of};
 ghost use Rattle.sim_base.specs.{Aim.square_to as square_to_by, Limits.IsSetup, Places.IsPlaced};
@@ -15,10 +15,9 @@ ghost use Rattle.sim_plans.specs.{PlanLaws.IsPlanOf, Plans.aim_changes_of, Plans
 use crate::finds::Finds;
 use sim_base::{Arms, Changes, Ids, Items, OutOfMemory, Point, Row, Setup, State, square};
 use sim_plans::{
-    RowIndex, arms_of, is_enemy_of, is_going, is_holding, is_near, push_target, push_turn,
+    RowIndex, Scene, arms_of, is_enemy_of, is_going, is_holding, is_near, push_target, push_turn,
     target_of,
 };
-use sim_scene::Scene;
 use sim_system::{Answer, Ask, System};
 use std::alloc::Global;
 

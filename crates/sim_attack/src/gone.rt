@@ -2,10 +2,10 @@
 
 ghost use Rattle.{sim_base.specs.Hit.gone, sim_base.specs.Hit.is_spent as is_spent_health, sim_plans.specs.PlanLaws.IsPlanOf, sim_plans.specs.Plans.gone_plan};
 ghost use Rattle.std.specs.{Prelude.◌≡◌, Prelude.IfOk, Result.ForOk};
-ghost use Rattle.sim_scene.specs.SceneWords.{Stands};
+ghost use Rattle.sim_plans.specs.SceneWords.{Stands};
 
 use sim_base::{Change, Changes, Items, OutOfMemory, Row, State};
-use sim_scene::Scene;
+use sim_plans::Scene;
 use sim_system::System;
 use std::alloc::Global;
 

@@ -2,15 +2,14 @@
 //!
 //! Each row fights against the state as it was; what landed hits take is kept in one sum for each row, at its place.
 
-ghost use Rattle.{sim_attack.specs.Fights.AreTaken, sim_attack.specs.Fights.fought_on, sim_scene.specs.SceneWords.Stands, std.specs.Result.ForOk};
+ghost use Rattle.{sim_attack.specs.Fights.AreTaken, sim_attack.specs.Fights.fought_on, sim_plans.specs.SceneWords.Stands, std.specs.Result.ForOk};
 ghost use Rattle.std.specs.Prelude.{◌≡◌, ℕ, ◌+◌, ◌^◌, ◌<◌, ◌≤◌, List, [], ◌∷◌, ◌++◌, length, IfOk, OnOk, All};
 ghost use Rattle.sim_base.specs.{Hit.Hit, Hit.hit, Hit.lands as lands_by, Limits.IsSetup, Validity.IsKnownRow, Validity.IsLooselyValid};
 ghost use Rattle.sim_plans.specs.{PlanLaws.IsPlanOf, Plans.cooldown_change, Plans.fight_changes_of, Plans.hit_plan, Plans.hurt_changes_by};
 
 use crate::damage::taken;
 use sim_base::{Aim, Change, Changes, Fixed, Items, OutOfMemory, Row, Setup, State, next_word};
-use sim_plans::{RowIndex, arms_of, is_near, resist_of};
-use sim_scene::Scene;
+use sim_plans::{RowIndex, Scene, arms_of, is_near, resist_of};
 use sim_system::System;
 use std::alloc::Global;
 

@@ -2,7 +2,7 @@
 //!
 //! It promises changes that fit the state in order and give the phase of the rule, each phase by the state before it. Whom
 //! a row sees is asked of the scene only for a row that looks for a target. It stands on `sim_plans`, which has the changes
-//! as lists, and on `sim_scene`.
+//! as lists, and the scene.
 //!
 //! - `aim`: whom a row takes as target, and the phase in which fighters aim.
 //! - `finds`: what rows that stand together find but once.

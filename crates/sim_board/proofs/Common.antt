@@ -15,10 +15,10 @@ pub use Rattle.sim_board.specs.Hearing.{all_told, AllMayHear}
 pub use Rattle.sim_laws.proofs.{Rows.Apart, Rows.apart, Rows.find_has, Rows.found_row, Rows.map_agree, Rows.same_row, Validity.first_state_is_valid}
 pub use Rattle.sim_plans.proofs.{Applying.fitting_keeps_loose, Bounds.found_placed, Places.row_at}
 pub use Rattle.sim_plans.specs.{Fits.AllFit, Fits.Fits, Fits.OfRow, Found.found}
-pub use Rattle.sim_scene.proofs.{Changing.IsTold, Parts.part-aimed_watch, Releasing.removed_is, Unheard.unheard}
-pub use Rattle.sim_scene.proofs.{FactLists.facts-unchanged, InRange.state_in_range, Noting.AreTold, Noting.change_told, Removing.watchers_are_watching}
-pub use Rattle.sim_scene.proofs.Removing.{first_told, id_is_some, left_told, let_go_state, released_is_state, removed_is_left, then_watching}
-pub use Rattle.sim_scene.specs.{Releases.AreWatching, Releases.release_all, SceneWords.IsStanding}
+pub use Rattle.sim_plans.proofs.{Changing.IsTold, Parts.part-aimed_watch, Releasing.removed_is, Unheard.unheard}
+pub use Rattle.sim_plans.proofs.{FactLists.facts-unchanged, InRange.state_in_range, Noting.AreTold, Noting.change_told, Removing.watchers_are_watching}
+pub use Rattle.sim_plans.proofs.Removing.{first_told, id_is_some, left_told, let_go_state, released_is_state, removed_is_left, then_watching}
+pub use Rattle.sim_plans.specs.{Releases.AreWatching, Releases.release_all, SceneWords.IsStanding}
 pub use Rattle.sim_system.specs.{Facts.fact_of, Facts.facts_of, Notes.noted, Notes.NoteFits, Posts.hears, Posts.posts, Posts.posts_born, Posts.posts_on}
 pub use Rattle.sim_system.specs.Meanings.{AreBuiltOnce, AreBuiltOnceAtMost, AreFed, four, IsBuiltOnceAtMost, IsFed, MayHear, Meaning, one_more, Systems, told}
 pub use Rattle.sim_system.specs.declared.kind.Kind.{Kind, TheVariants.Census, TheVariants.Ground, TheVariants.Range, TheVariants.Watch}

@@ -1,5 +1,5 @@
 -- What a board is to its callers. A clause passes ⟦<dyn System as System>⟧ for `sys`.
-use Rattle.{sim_base.specs.declared.setup.Setup.Setup, sim_base.specs.declared.state.State.State, sim_scene.specs.SceneWords.IsStanding}
+use Rattle.{sim_base.specs.declared.setup.Setup.Setup, sim_base.specs.declared.state.State.State, sim_plans.specs.SceneWords.IsStanding}
 use Rattle.{sim_board.specs.declared.board.Board.Board, sim_system.specs.declared.rig.Rig.Rig, sim_system.specs.declared.system.System.Ghosts}
 use Rattle.std.specs.Prelude.{◌≡◌, Bool, true}
 use Rattle.sim_system.specs.{Meanings.HaveKinds, Meanings.HaveSameRebuilds, Meanings.Meaning, Meanings.Systems, RigWords.systems_by, RigWords.systems_of}

@@ -4,7 +4,7 @@ use Rattle.std.specs.Prelude.{◌≡◌, IsOk, OnOk, Result}
 use Rattle.sim_base.specs.{Changes.applied, declared.change.Change.Change}
 use Rattle.sim_board.specs.{BoardWords.AreKept, BoardWords.is_whole, BoardWords.setup_in, BoardWords.state_in, declared.board.Board.Board}
 use Rattle.sim_board.specs.ChangeKinds.{KeepsTarget, NeedsNoMemory}
-use Rattle.{sim_plans.specs.Fits.Fits, sim_scene.specs.SceneWords.IsStanding}
+use Rattle.{sim_plans.specs.Fits.Fits, sim_plans.specs.SceneWords.IsStanding}
 use Rattle.sim_system.specs.{Meanings.AreFed, Meanings.Meaning, RigWords.systems_by, declared.system.System.Ghosts}
 
 -- the systems may be told of a change: the scene stands, and the change fits

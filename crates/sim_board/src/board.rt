@@ -1,6 +1,6 @@
 //! The calls of a board.
 
-ghost use Rattle.{sim_board.specs.Leading.LeadsOn, sim_scene.specs.SceneWords.Stands, sim_system.specs.Meanings.HaveKinds};
+ghost use Rattle.{sim_board.specs.Leading.LeadsOn, sim_plans.specs.SceneWords.Stands, sim_system.specs.Meanings.HaveKinds};
 ghost use Rattle.std.specs.Prelude.{◌≡◌, ◌≤◌, false, [], length, drop};
 ghost use Rattle.sim_base.specs.{Limits.IsSetup, Turn.first_state as first_state_of, Validity.IsValid};
 ghost use Rattle.sim_board.specs.Boards.{Begins, Makes};
@@ -11,7 +11,7 @@ use crate::build::build;
 use crate::first::first_state;
 use crate::quiet::keep_aims;
 use sim_base::{Change, Items, OutOfMemory, Setup, State};
-use sim_scene::Scene;
+use sim_plans::Scene;
 use sim_system::{Rig, System};
 use std::alloc::Global;
 

@@ -1,7 +1,7 @@
 //! The notes of each change, to the systems that keep it. The state is still as it was before. The row of a change stands near
 //! the place that the board keeps for it.
 
-ghost use Rattle.{sim_scene.specs.Releases.AreWatching, sim_scene.specs.Releases.release_all, sim_scene.specs.SceneWords.IsStanding};
+ghost use Rattle.{sim_plans.specs.Releases.AreWatching, sim_plans.specs.Releases.release_all, sim_plans.specs.SceneWords.IsStanding};
 ghost use Rattle.std.specs.Prelude.{◌≡◌, IfOk, OnOk, IsOk};
 ghost use Rattle.sim_base.specs.Filters.{watchers as watchers_of};
 ghost use Rattle.sim_board.specs.{BoardWords.AreKept, BoardWords.state_in, ChangeKinds.IsNoRemoval, ChangeKinds.KeepsTarget, ChangeKinds.NeedsNoMemory};
@@ -13,8 +13,7 @@ use crate::board::Board;
 use crate::row::{Birth, born, fact_of, living};
 use crate::tell::tell_all;
 use sim_base::{Aim, Change, Ids, OutOfMemory, Point, Setup, State};
-use sim_plans::target_of;
-use sim_scene::Scene;
+use sim_plans::{Scene, target_of};
 use sim_system::{Answer, Ask, Note, Rig, System, boxed};
 
 impl Board<'_> {

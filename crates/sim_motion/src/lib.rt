@@ -2,7 +2,7 @@
 //! target.
 //!
 //! It promises changes that fit the state in order and give the phase of the rule. A way is asked of the scene only where
-//! the rule asks one. It stands on `sim_plans`, which has the changes as a list, and on `sim_scene`.
+//! the rule asks one. It stands on `sim_plans`, which has the changes as a list, and the scene.
 //!
 //! - `far`: how far apart two points are.
 //! - `walk`: how far a budget leads along waypoints.

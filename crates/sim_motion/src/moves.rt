@@ -5,13 +5,12 @@ ghost use Rattle.sim_base.specs.{Filters.field_of, Rows.arms_of as arms_by, Rows
 ghost use Rattle.sim_base.specs.{Move.after_walk as after_walk_by, Move.along as along_by, Move.chasing, Move.moved_by, Move.walked, Validity.IsKnownRow};
 ghost use Rattle.sim_base.specs.{Places.is_inside, Places.IsPlaced, declared.state.Motion.TheVariants.Going, declared.state.Motion.TheVariants.Still};
 ghost use Rattle.sim_motion.specs.Moves.{along_way, MakesNoWay, NeedsNoMemory, row_moved, way_in};
-ghost use Rattle.sim_scene.specs.SceneWords.{Stands};
+ghost use Rattle.sim_plans.specs.SceneWords.{Stands};
 
 use crate::chase::{Chase, chase_of};
 use crate::walk::walk;
 use sim_base::{Items, Motion, OutOfMemory, Point, Row};
-use sim_plans::RowIndex;
-use sim_scene::Scene;
+use sim_plans::{RowIndex, Scene};
 use sim_system::{Answer, Ask, System, Way};
 use std::alloc::Global;
 

@@ -1,14 +1,13 @@
 //! The changes of the phase in which rows move.
 
-ghost use Rattle.{sim_base.specs.Move.moved, sim_base.specs.Validity.IsKnownRow, sim_scene.specs.SceneWords.Stands, std.specs.Result.ForOk};
+ghost use Rattle.{sim_base.specs.Move.moved, sim_base.specs.Validity.IsKnownRow, sim_plans.specs.SceneWords.Stands, std.specs.Result.ForOk};
 ghost use Rattle.{sim_motion.specs.Moves.motion_or, sim_motion.specs.Moves.row_moved, sim_plans.specs.Plans.move_changes_of, sim_plans.specs.Plans.move_plan};
 ghost use Rattle.std.specs.Prelude.{◌≡◌, [], ◌++◌, IfOk, OnOk, IsSome, IsOk, Some, None};
 ghost use Rattle.sim_plans.specs.{PlanLaws.IsPlanOf, RowPlans.goes_on as goes_on_by, RowPlans.motion_changes as motion_changes_by, RowPlans.step_changes};
 
 use crate::moves::{Moved, move_of};
 use sim_base::{Change, Changes, Items, Motion, OutOfMemory, Row};
-use sim_plans::{RowIndex, same_point, speed_of};
-use sim_scene::Scene;
+use sim_plans::{RowIndex, Scene, same_point, speed_of};
 use sim_system::System;
 use std::alloc::Global;
 

@@ -1,15 +1,14 @@
 //! The help of a command, made by asking a scene. It is asked for the count always, for a free rectangle where the command
 //! places a known template that is an obstruction at a point inside, and for a spot where a building that is alive trains.
 
-ghost use Rattle.{sim_base.specs.Places.is_inside as is_inside_by, sim_base.specs.Rows.size_of, sim_scene.specs.SceneWords.Stands};
+ghost use Rattle.{sim_base.specs.Places.is_inside as is_inside_by, sim_base.specs.Rows.size_of, sim_plans.specs.SceneWords.Stands};
 ghost use Rattle.std.specs.Prelude.{◌≡◌, IfOk, IsOk, IsTrue, slice_get};
 ghost use Rattle.sim_base.specs.{Commands.is_placeable as is_placeable_by, Filters.is_free_rect, Filters.population as population_by, Filters.spot as spot_by};
 ghost use Rattle.sim_orders.specs.{Helps.is_free_for, Helps.IsHelp, Helps.spot_for, Light.NeedsNoSpot};
 
 use crate::help::Help;
 use sim_base::{Cell, Command, OutOfMemory, PlayerCommand, Point, Rect, rect_of};
-use sim_plans::{find_row, is_inside, template_at};
-use sim_scene::Scene;
+use sim_plans::{Scene, find_row, is_inside, template_at};
 use sim_system::{Answer, Ask, System};
 
 /// What a planner of the order needs of the systems.

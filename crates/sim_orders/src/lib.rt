@@ -2,7 +2,7 @@
 //! a stored function beside the fact that it keeps.
 //!
 //! It promises of the changes for a command that they fit the state in order, give the state of the rule, and touch no
-//! row but the commander's. It stands on `sim_plans`, which has the changes as lists, and on `sim_scene`, which is asked
+//! row but the commander's. It stands on `sim_plans`, which has the changes as lists, and the scene, which is asked
 //! for what a planner needs of the systems.
 //!
 //! - `help`: what a planner needs of the systems.

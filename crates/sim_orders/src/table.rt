@@ -1,13 +1,13 @@
 //! The table of the stored planners, and the help that it makes for them.
 
-ghost use Rattle.{sim_base.specs.Limits.IsFrom, sim_scene.specs.SceneWords.Stands};
+ghost use Rattle.{sim_base.specs.Limits.IsFrom, sim_plans.specs.SceneWords.Stands};
 ghost use Rattle.std.specs.Prelude.{◌≡◌, ℕ, ◌<◌, ◌≤◌, ◌==◌, count_by};
 ghost use Rattle.sim_orders.specs.{OneProof.obeys_prop, Orders.IsGiven, Orders.kind_of as kind_by, Orders.Obeys};
 
 use crate::asks::help_of;
 use crate::{Help, kind_of};
 use sim_base::{Changes, Command, OutOfMemory, PlayerCommand, Setup, State};
-use sim_scene::Scene;
+use sim_plans::Scene;
 use sim_system::System;
 use std::alloc::Global;
 

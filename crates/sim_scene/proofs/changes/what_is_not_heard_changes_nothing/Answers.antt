@@ -1,6 +1,0 @@
--- The law is a lemma.
-use Rattle.sim_scene.proofs.Unheard.{unheard}
-use Rattle.sim_scene.proofs.changes.what_is_not_heard_changes_nothing.Goals as goal
-
-pub returns : goal.returns
-returns c = unheard

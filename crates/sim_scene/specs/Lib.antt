@@ -1,3 +1,0 @@
-pub mod SceneWords
-pub mod FactLaws
-pub mod Releases

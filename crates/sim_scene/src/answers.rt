@@ -1,8 +1,0 @@
-//! The law of answers.
-
-ghost use Rattle.sim_scene.specs.FactLaws.{AnswersAgree};
-
-/// What is answered over what a kind keeps of a state is what is answered over its rows.
-pub fn answers_are_those_over_the_rows()
-    ensures { AnswersAgree }
-{}
