@@ -5,7 +5,8 @@ use Rattle.sim_top.proofs.Common.{IsRefusal, IsUnfound, length_in, ListRefused, 
 use Rattle.sim_top.proofs.Common.{arith, bytes_by, bytes_in, CausesOf, Counts, CountsBefore, EconomyRefused, File, file_in, GaveAll, IsOfContent, IsReading}
 use Rattle.sim_top.proofs.Common.{reading_of, Shelved, SightRefused, StateRefused, status_of, Stop, subst, sym, TooLong, ◌∙◌}
 use Rattle.sim_top.proofs.Common.{◌≡◌, ℕ, ◌+◌, ◌<◌, ◌≤◌, Bool, true, false, cond, List, length, IfSome, IfErr, Some, None, Ok, Err, Option, Result, refl, ap}
-use Rattle.sim_top.specs.{Answers.GaveThenFailed, Answers.GaveThenMissed, Reads.length_of, Stops.ReadsCounting, declared.stop.Stop.TheVariants.NoSuchTurn}
+use Rattle.sim_top.specs.{Answers.GaveThenFailed, Answers.GaveThenMissed, Commands.HasParsed, Commands.HasRead, Reads.length_of, Stops.ReadsCounting}
+use Rattle.sim_top.specs.{declared.stop.Stop.TheVariants.NoSuchTurn}
 use Rattle.sim_store.specs.declared.fault.StoreFault.TheVariants as store
 
 pub gave : (n : ℕ) (old new : Counts) → new ≡ after_giving n old → OnlyGave old new
@@ -170,3 +171,25 @@ was_read name bytes found before now content counts told there same =
           (gave_file before.held files name bytes before.counts now.counts is told counts);
       same = same;
     }
+
+-- the same two, with what is good of what is read and why a command ends
+module _ {X : Type 0} (IsGood : X → Type 0) (IsOf : Stop → Type 0) where
+  pub not_read : IsOf ReadFault → IsOf TooLong → IsOf NoFile → IsOf OutOfMemory → (name : List ℕ) (stop : Stop) (before now : Shelved)
+      → ReadsCounting (Err stop) before.counts now.counts
+      → ((files : List File) → before.held ≡ Some files → file_in files name ≡ None → IsUnfound (status_of stop)) → now.held ≡ before.held
+      → HasRead (Err stop) IsGood IsOf name before now
+  not_read fault long none memory name stop before now counts missing same = record {
+    good = tt;
+    stops = counted_is IsOf fault long none memory stop before.counts now.counts counts;
+    reading = unread name stop before now counts missing same;
+  }
+
+  pub has_read : (name bytes : List ℕ) (found : Result X Stop) (before now : Shelved) → HasParsed found IsGood IsOf
+      → now.counts ≡ after_giving (length bytes) before.counts
+      → IfSome before.held (λ files. bytes_in files name ≡ Ok bytes) → ((files : List File) → before.held ≡ Some files → file_in files name ≡ None → ⊥)
+      → now.held ≡ before.held → HasRead found IsGood IsOf name before now
+  has_read name bytes found before now parsed counts told there same = record {
+    good = parsed.good;
+    stops = parsed.stops;
+    reading = was_read name bytes found before now parsed.content counts told there same;
+  }

@@ -1,7 +1,8 @@
 -- What is made of the words before anything is written, what a command answers to what is asked, and what reading a file says of the
 -- shelf: the facts of each call by name.
-use Rattle.std.specs.Prelude.{◌≡◌, ℕ, ◌≢◌, List, [], IfSome, IfOk, Some, None, Option, Result, option_map}
+use Rattle.std.specs.Prelude.{◌≡◌, ℕ, ◌≢◌, List, [], IfSome, IfOk, IfErr, Some, None, Option, Result, option_map}
 use Rattle.sim_top.specs.{Answers.CountsBefore, Answers.IsSilent, Answers.MayAnswer, Answers.MayEnd, Stops.CausesOf, Stops.GaveAll, Stops.IsMissed}
+use Rattle.sim_top.specs.{Stops.IsOfContent}
 use Rattle.sim_top.specs.{Common.Counts, Common.File, Common.file_in, Common.usage_text, Reads.IsUnfound, Reads.LacksFirst, Reads.LacksMatch, Reads.length_in}
 use Rattle.sim_top.specs.{Given.GaveFor, Given.GaveForWords, Outcome.IsOutcomeOf, Outcome.Outcome, Words.Asked, Words.asked_by, Words.out_of}
 use Rattle.sim_top.specs.Making.{file_of, IsFileAs, IsFinished, IsSavedAs, IsUsageMade, Makes, MeetsBefore, SavesIfDone, status_made}
@@ -22,6 +23,19 @@ pub record IsReading {X : Type 0} (name : List ℕ) (found : Result X Stop) (bef
   pub causes : CausesOf found before.counts now.counts
   pub given : (files : List File) → before.held ≡ Some files → GaveAll found (length_in files name) before.counts now.counts
   pub same : now.held ≡ before.held
+
+-- what reading the file of this name comes to, beside what is told of its bytes: what is good of it, why a command ends that has to read it, and
+-- what it says of the shelf
+pub record HasRead {X : Type 0} (found : Result X Stop) (IsGood : X → Type 0) (IsOf : Stop → Type 0) (name : List ℕ) (before now : Shelved) : Type 0 where
+  pub good : IfOk found IsGood
+  pub stops : IfErr found IsOf
+  pub reading : IsReading name found before now
+
+-- what bytes come to, beside what is told of them: the shelf has no part in why a command ends
+pub record HasParsed {X : Type 0} (found : Result X Stop) (IsGood : X → Type 0) (IsOf : Stop → Type 0) : Type 0 where
+  pub good : IfOk found IsGood
+  pub stops : IfErr found IsOf
+  pub content : IfErr found IsOfContent
 
 -- an outcome with which a command may end that has its text
 pub record MayFinish (asked : Asked) (wanted : Outcome) : Type 0 where

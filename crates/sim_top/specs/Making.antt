@@ -1,6 +1,6 @@
 -- What a command has made when it has read its files: an outcome that is still to be written, or why it ends before.
 use Rattle.{sim_base.specs.declared.memory.OutOfMemory.OutOfMemory as Memory, std.specs.Prelude.option_map}
-use Rattle.std.specs.Prelude.{◌≡◌, ℕ, ◌<◌, ◌≢◌, ◌⊎◌, List, [], length, take, IfOk, IfErr, ⊤, Some, None, Ok, Err, string_bytes, Option, Result, String}
+use Rattle.std.specs.Prelude.{◌≡◌, ℕ, ◌<◌, ◌≢◌, ◌⊎◌, List, [], length, take, IfOk, IfErr, OnErr, ⊤, Some, None, Ok, Err, string_bytes, Option, Result, String}
 use Rattle.sim_top.specs.{Answers.Saves, Answers.SavesPart, Stops.status_of, Stops.Stopped, declared.status.Status.Status}
 use Rattle.sim_top.specs.{Common.Appends, Common.File, Common.Global, Common.raised, Common.StoreFault, Outcome.IsOutcome, Outcome.Outcome}
 use Rattle.sim_top.specs.declared.{commands.Answer.Answer, commands.Saved.Saved, stop.Stop.Stop, stop.Stop.TheVariants.OutOfMemory as NoMemory}
@@ -46,6 +46,12 @@ pub record IsMade (wanted : Outcome) (made : Result Answer Stop) : Type 0 where
 pub record IsMadeAs (Wanted : Outcome → Type 0) (made : Result Answer Stop) : Type 0 where
   pub answers : IfOk made (λ answer. Wanted (outcome_made answer))
   pub stops : IfErr made (λ stop. stop ≡ NoMemory)
+
+-- an outcome is made of what was made before it, or there is no memory for it, as where there was none for that
+pub record IsMadeOf {X : Type 0} (before : Result X Memory) (wanted : X → Outcome) (now : Result Answer Stop) : Type 0 where
+  pub made : IfOk now (λ answer. IfOk before (λ x. outcome_made answer ≡ wanted x))
+  pub stops : IfErr now (λ stop. stop ≡ NoMemory)
+  pub refused : OnErr before (now ≡ Err NoMemory)
 
 -- an outcome that is still to be written is one of the words, or a read fault or want of memory came between
 abbrev pub MeetsBefore : Status → List (List ℕ) → List File → List ℕ → Option File → Type 0

@@ -3,7 +3,8 @@ use Rattle.std.specs.Prelude.{◌≡◌, ℕ, List, [], ◌∷◌, length, IfOk,
 use Rattle.sim_system.specs.Meanings.{Systems}
 use Rattle.sim_top.specs.{Common.Setup, Common.State, Common.state_after, Common.systems_by, declared.commands.Answer.Answer, declared.stop.Stop.Stop}
 use Rattle.sim_top.specs.{Outcome.bytes_in, Outcome.economy_in, Outcome.match_in, Outcome.Outcome, Outcome.trial_match, Stops.IsLogOf, Stops.IsState}
-use Rattle.sim_top.specs.Common.{after, AreBuiltOnceAtMost, AreFed, end_from, File, first_state, Ghosts, HaveKinds, Log, Meaning, own_turns, paid_state, Rig}
+use Rattle.sim_top.specs.Common.{after, AreBuiltOnceAtMost, AreCleared, AreFed, end_from, File, first_state, Ghosts, HaveKinds, Log, Meaning, own_turns}
+use Rattle.sim_top.specs.Common.{paid_state, Rig}
 use Rattle.sim_top.specs.Words.{Asked, to_check, to_compare, to_film, to_log, to_parts, to_play, to_realm, to_record, to_rejoin, to_resight, to_resume}
 use Rattle.sim_top.specs.Words.{to_serve, to_session, to_show, to_sight, to_stock, to_store, to_try}
 
@@ -110,3 +111,12 @@ pub record AreEightBy {X : Type 0} {F : X → Type 0} (meaning : (i : X) → F i
 -- the same, as a clause has it
 abbrev pub AreEight : {X : Type 0} {F : X → Type 0} → ((i : X) → Ghosts (F i)) → List (Rig X F) → Type 0
 AreEight sys rigs = AreEightBy (λ i v. (sys i).meaning v) rigs
+
+-- eight rigs whose systems have forgotten all
+pub record AreFreshBy {X : Type 0} {F : X → Type 0} (meaning : (i : X) → F i → Meaning) (rigs : List (Rig X F)) : Type 0 where
+  pub eight : AreEightBy meaning rigs
+  pub cleared : All (λ r. AreCleared (systems_by r meaning)) rigs
+
+-- the same, as a clause has it
+abbrev pub AreFresh : {X : Type 0} {F : X → Type 0} → ((i : X) → Ghosts (F i)) → List (Rig X F) → Type 0
+AreFresh sys rigs = AreFreshBy (λ i v. (sys i).meaning v) rigs

@@ -2,13 +2,14 @@
 //! steps of a session; and the match of a trial. What is refused without a look at its contents takes no memory.
 
 ghost use Rattle.{sim_codec.specs.Loading.head_fault, sim_lists.specs.Schedules.IsSchedule};
-ghost use Rattle.{sim_top.specs.Commands.IsReading, sim_top.specs.Commands.shelved, sim_top.specs.Common.steps_of as steps_of_bytes, std.specs.Str.is_utf8};
-ghost use Rattle.std.specs.Prelude.{◌≡◌, false, List, IfSome, IsErrAnd, IfOk, IfErr, Some, None, Ok, Err};
+ghost use Rattle.{sim_top.specs.Commands.HasParsed, sim_top.specs.Commands.HasRead, sim_top.specs.Commands.shelved};
+ghost use Rattle.{sim_top.specs.Common.steps_of as steps_of_bytes, std.specs.Str.is_utf8};
+ghost use Rattle.std.specs.Prelude.{◌≡◌, false, List, IfSome, IsErrAnd, Some, None, Ok, Err};
 ghost use Rattle.sim_top.specs.{Outcome.trial_match as match_of_trial, Stops.Reads, Stops.ReadsBytes, Stops.ReadsCounting, Stops.ReadsLog, Stops.ReadsState};
 ghost use Rattle.sim_top.specs.Common.{economy_of as economy_of_bytes, File, file_in, IsEconomy, IsLog, IsSetup, IsStepList, IsTrial, IsValid, refusal_of};
 ghost use Rattle.sim_top.specs.Common.{schedule_of as schedule_of_bytes, session_setup_of as session_setup_of_bytes, setup_of as setup_of_bytes};
 ghost use Rattle.sim_top.specs.Outcome.{bytes_in, economy_by, economy_in, list_by, map_at, map_by, match_in, schedule_in, session_match_in, setup_by, steps_in};
-ghost use Rattle.sim_top.specs.Stops.{IsMissed, IsOfContent, IsOfEconomy, IsOfList, IsOfLog, IsOfMap, IsOfMatch, IsOfState, IsStateStop, Joins, LoadsState};
+ghost use Rattle.sim_top.specs.Stops.{IsMissed, IsOfEconomy, IsOfList, IsOfLog, IsOfMap, IsOfMatch, IsOfState, IsStateStop, Joins, LoadsState};
 
 use crate::stop::Stop;
 use sim_base::{Setup, State};
@@ -43,10 +44,8 @@ fn read_bytes<'w, S: Shelf>(alloc: Global, shelf: &mut S, name: &str) -> Result<
 // The match of the bytes of a file.
 fn match_of<'w>(alloc: Global, bytes: &[u8]) -> Result<Setup, Stop<'w>>
     ensures tells { Reads result (setup_by (setup_of_bytes bytes.now)) }
-    ensures limits { IfOk result IsSetup }
     ensures no_text { is_utf8 bytes.now ≡ false → result ≡ Err (Stop.MatchRefused 1 0) }
-    ensures stops { IfErr result IsOfMatch }
-    ensures content { IfErr result IsOfContent }
+    ensures parsed { HasParsed result IsSetup IsOfMatch }
 {
     Ok(setup_of(alloc, bytes)?)
 }
@@ -55,9 +54,8 @@ fn match_of<'w>(alloc: Global, bytes: &[u8]) -> Result<Setup, Stop<'w>>
 #[tactic(auto, unfolding(crate::specs::Outcome::match_in))]
 pub fn read_match<'w, S: Shelf>(alloc: Global, shelf: &mut S, name: &str) -> Result<Setup, Stop<'w>>
     ensures tells { IfSome (S.held shelf.old) (λ files. Reads result (match_in files name.now)) }
-    ensures limits { IfOk result IsSetup }
-    ensures stops { IfErr result IsOfMatch }
-    ensures reading { IsReading name.now result (shelved (S.held shelf.old) (S.counts shelf.old)) (shelved (S.held shelf.new) (S.counts shelf.new)) }
+    ensures read { HasRead result IsSetup IsOfMatch name.now (shelved (S.held shelf.old) (S.counts shelf.old))
+        (shelved (S.held shelf.new) (S.counts shelf.new)) }
 {
     let bytes = read_bytes(alloc, shelf, name)?;
     match_of(alloc, &bytes)
@@ -66,10 +64,8 @@ pub fn read_match<'w, S: Shelf>(alloc: Global, shelf: &mut S, name: &str) -> Res
 // The match for a session of the bytes of a file.
 fn session_match_of<'w>(alloc: Global, bytes: &[u8]) -> Result<Setup, Stop<'w>>
     ensures tells { Reads result (setup_by (session_setup_of_bytes bytes.now)) }
-    ensures limits { IfOk result IsSetup }
     ensures no_text { is_utf8 bytes.now ≡ false → result ≡ Err (Stop.MatchRefused 1 0) }
-    ensures stops { IfErr result IsOfMatch }
-    ensures content { IfErr result IsOfContent }
+    ensures parsed { HasParsed result IsSetup IsOfMatch }
 {
     Ok(session_setup_of(alloc, bytes)?)
 }
@@ -82,9 +78,8 @@ pub fn read_session_match<'w, S: Shelf>(
     name: &str,
 ) -> Result<Setup, Stop<'w>>
     ensures tells { IfSome (S.held shelf.old) (λ files. Reads result (session_match_in files name.now)) }
-    ensures limits { IfOk result IsSetup }
-    ensures stops { IfErr result IsOfMatch }
-    ensures reading { IsReading name.now result (shelved (S.held shelf.old) (S.counts shelf.old)) (shelved (S.held shelf.new) (S.counts shelf.new)) }
+    ensures read { HasRead result IsSetup IsOfMatch name.now (shelved (S.held shelf.old) (S.counts shelf.old))
+        (shelved (S.held shelf.new) (S.counts shelf.new)) }
 {
     let bytes = read_bytes(alloc, shelf, name)?;
     session_match_of(alloc, &bytes)
@@ -95,9 +90,7 @@ pub fn read_session_match<'w, S: Shelf>(
 pub fn trial_match<'w>(alloc: Global, seed: u32, units: u32, turns: u32) -> Result<Setup, Stop<'w>>
     requires { IsTrial seed units turns }
     ensures tells { Reads result (match_of_trial seed units turns) }
-    ensures limits { IfOk result IsSetup }
-    ensures stops { IfErr result IsOfMatch }
-    ensures content { IfErr result IsOfContent }
+    ensures parsed { HasParsed result IsSetup IsOfMatch }
 {
     let text = trial_text(alloc, u64::from(seed), units, turns)?;
     match_of(alloc, &text)
@@ -113,8 +106,7 @@ fn state_of<'w>(
     requires { IsSetup setup.now }
     ensures loads { LoadsState result setup.now name.now bytes.now }
     ensures head { IfSome (head_fault setup.now bytes.now) (λ fault. IsErrAnd result (IsStateStop fault name.now)) }
-    ensures stops { IfErr result IsOfState }
-    ensures content { IfErr result IsOfContent }
+    ensures parsed { HasParsed result (IsValid setup.now) IsOfState }
 {
     match load(alloc, setup, bytes) {
         Ok(state) => Ok(state),
@@ -131,9 +123,8 @@ pub fn read_state<'w, S: Shelf>(
 ) -> Result<State, Stop<'w>>
     requires { IsSetup setup.now }
     ensures tells { IfSome (S.held shelf.old) (λ files. ReadsState result setup.now name.now (bytes_in files name.now)) }
-    ensures valid { IfOk result (IsValid setup.now) }
-    ensures stops { IfErr result IsOfState }
-    ensures reading { IsReading name.now result (shelved (S.held shelf.old) (S.counts shelf.old)) (shelved (S.held shelf.new) (S.counts shelf.new)) }
+    ensures read { HasRead result (IsValid setup.now) IsOfState name.now (shelved (S.held shelf.old) (S.counts shelf.old))
+        (shelved (S.held shelf.new) (S.counts shelf.new)) }
 {
     let bytes = read_bytes(alloc, shelf, name)?;
     state_of(alloc, setup, name, &bytes)
@@ -149,9 +140,7 @@ fn sight_of<'a, 'w>(
     requires limits { IsSetup setup.now }
     requires valid { IsValid setup.now state.now }
     ensures joins { Joins result setup.now state.now (map_by (refusal_of setup.now state.now.rows bytes.now) bytes.now) }
-    ensures same { IfOk result (λ sight. sight.setup ≡ setup.now) }
-    ensures stops { IfErr result IsOfMap }
-    ensures content { IfErr result IsOfContent }
+    ensures parsed { HasParsed result (λ sight. sight.setup ≡ setup.now) IsOfMap }
 {
     Ok(Sight::join(alloc, setup, state, bytes)?)
 }
@@ -167,9 +156,8 @@ pub fn read_sight<'a, 'w, S: Shelf>(
     requires limits { IsSetup setup.now }
     requires valid { IsValid setup.now state.now }
     ensures tells { IfSome (S.held shelf.old) (λ files. Joins result setup.now state.now (map_at setup.now state.now (bytes_in files name.now))) }
-    ensures same { IfOk result (λ sight. sight.setup ≡ setup.now) }
-    ensures stops { IfErr result IsOfMap }
-    ensures reading { IsReading name.now result (shelved (S.held shelf.old) (S.counts shelf.old)) (shelved (S.held shelf.new) (S.counts shelf.new)) }
+    ensures read { HasRead result (λ sight. sight.setup ≡ setup.now) IsOfMap name.now (shelved (S.held shelf.old) (S.counts shelf.old))
+        (shelved (S.held shelf.new) (S.counts shelf.new)) }
 {
     let bytes = read_bytes(alloc, shelf, name)?;
     sight_of(alloc, setup, state, &bytes)
@@ -178,10 +166,8 @@ pub fn read_sight<'a, 'w, S: Shelf>(
 // The economy of a match that the bytes of a file are.
 fn economy_from<'w>(alloc: Global, setup: &Setup, bytes: &[u8]) -> Result<Economy, Stop<'w>>
     ensures tells { Reads result (economy_by (economy_of_bytes setup.now bytes.now)) }
-    ensures limits { IfOk result (IsEconomy setup.now) }
     ensures no_text { is_utf8 bytes.now ≡ false → result ≡ Err (Stop.EconomyRefused 0) }
-    ensures stops { IfErr result IsOfEconomy }
-    ensures content { IfErr result IsOfContent }
+    ensures parsed { HasParsed result (IsEconomy setup.now) IsOfEconomy }
 {
     Ok(economy_of(alloc, setup, bytes)?)
 }
@@ -195,9 +181,8 @@ pub fn read_economy<'w, S: Shelf>(
     name: &str,
 ) -> Result<Economy, Stop<'w>>
     ensures tells { IfSome (S.held shelf.old) (λ files. Reads result (economy_in files name.now setup.now)) }
-    ensures limits { IfOk result (IsEconomy setup.now) }
-    ensures stops { IfErr result IsOfEconomy }
-    ensures reading { IsReading name.now result (shelved (S.held shelf.old) (S.counts shelf.old)) (shelved (S.held shelf.new) (S.counts shelf.new)) }
+    ensures read { HasRead result (IsEconomy setup.now) IsOfEconomy name.now (shelved (S.held shelf.old) (S.counts shelf.old))
+        (shelved (S.held shelf.new) (S.counts shelf.new)) }
 {
     let bytes = read_bytes(alloc, shelf, name)?;
     economy_from(alloc, setup, &bytes)
@@ -206,9 +191,7 @@ pub fn read_economy<'w, S: Shelf>(
 // The log of a match that the bytes of a file are.
 fn log_from<'w>(alloc: Global, setup: &Setup, bytes: &[u8]) -> Result<Log, Stop<'w>>
     ensures tells { ReadsLog result setup.now (Ok bytes.now) }
-    ensures limits { IfOk result (IsLog setup.now) }
-    ensures stops { IfErr result IsOfLog }
-    ensures content { IfErr result IsOfContent }
+    ensures parsed { HasParsed result (IsLog setup.now) IsOfLog }
 {
     Ok(log_of(alloc, setup, bytes)?)
 }
@@ -221,9 +204,8 @@ pub fn read_log<'w, S: Shelf>(
     name: &str,
 ) -> Result<Log, Stop<'w>>
     ensures tells { IfSome (S.held shelf.old) (λ files. ReadsLog result setup.now (bytes_in files name.now)) }
-    ensures limits { IfOk result (IsLog setup.now) }
-    ensures stops { IfErr result IsOfLog }
-    ensures reading { IsReading name.now result (shelved (S.held shelf.old) (S.counts shelf.old)) (shelved (S.held shelf.new) (S.counts shelf.new)) }
+    ensures read { HasRead result (IsLog setup.now) IsOfLog name.now (shelved (S.held shelf.old) (S.counts shelf.old))
+        (shelved (S.held shelf.new) (S.counts shelf.new)) }
 {
     let bytes = read_bytes(alloc, shelf, name)?;
     log_from(alloc, setup, &bytes)
@@ -232,10 +214,8 @@ pub fn read_log<'w, S: Shelf>(
 // The schedule of the bytes of a file.
 fn schedule_from<'w>(alloc: Global, bytes: &[u8]) -> Result<Schedule, Stop<'w>>
     ensures tells { Reads result (list_by (schedule_of_bytes bytes.now)) }
-    ensures limits { IfOk result IsSchedule }
     ensures no_text { is_utf8 bytes.now ≡ false → result ≡ Err (Stop.ListRefused 0) }
-    ensures stops { IfErr result IsOfList }
-    ensures content { IfErr result IsOfContent }
+    ensures parsed { HasParsed result IsSchedule IsOfList }
 {
     Ok(schedule_of(alloc, bytes)?)
 }
@@ -248,9 +228,8 @@ pub fn read_schedule<'w, S: Shelf>(
     name: &str,
 ) -> Result<Schedule, Stop<'w>>
     ensures tells { IfSome (S.held shelf.old) (λ files. Reads result (schedule_in files name.now)) }
-    ensures limits { IfOk result IsSchedule }
-    ensures stops { IfErr result IsOfList }
-    ensures reading { IsReading name.now result (shelved (S.held shelf.old) (S.counts shelf.old)) (shelved (S.held shelf.new) (S.counts shelf.new)) }
+    ensures read { HasRead result IsSchedule IsOfList name.now (shelved (S.held shelf.old) (S.counts shelf.old))
+        (shelved (S.held shelf.new) (S.counts shelf.new)) }
 {
     let bytes = read_bytes(alloc, shelf, name)?;
     schedule_from(alloc, &bytes)
@@ -259,10 +238,8 @@ pub fn read_schedule<'w, S: Shelf>(
 // The list of steps of the bytes of a file, for so many players.
 fn steps_from<'w>(alloc: Global, bytes: &[u8], players: u8) -> Result<StepList, Stop<'w>>
     ensures tells { Reads result (list_by (steps_of_bytes players bytes.now)) }
-    ensures limits { IfOk result (IsStepList players) }
     ensures no_text { is_utf8 bytes.now ≡ false → result ≡ Err (Stop.ListRefused 0) }
-    ensures stops { IfErr result IsOfList }
-    ensures content { IfErr result IsOfContent }
+    ensures parsed { HasParsed result (IsStepList players) IsOfList }
 {
     Ok(steps_of(alloc, bytes, players)?)
 }
@@ -276,9 +253,8 @@ pub fn read_steps<'w, S: Shelf>(
     players: u8,
 ) -> Result<StepList, Stop<'w>>
     ensures tells { IfSome (S.held shelf.old) (λ files. Reads result (steps_in files name.now players)) }
-    ensures limits { IfOk result (IsStepList players) }
-    ensures stops { IfErr result IsOfList }
-    ensures reading { IsReading name.now result (shelved (S.held shelf.old) (S.counts shelf.old)) (shelved (S.held shelf.new) (S.counts shelf.new)) }
+    ensures read { HasRead result (IsStepList players) IsOfList name.now (shelved (S.held shelf.old) (S.counts shelf.old))
+        (shelved (S.held shelf.new) (S.counts shelf.new)) }
 {
     let bytes = read_bytes(alloc, shelf, name)?;
     steps_from(alloc, &bytes, players)

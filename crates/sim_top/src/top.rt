@@ -1,7 +1,7 @@
 //! The top call: from the words to a status. All files are read and the whole text is made before anything is written,
 //! so that a refusal or want of memory leaves the sink and the files as they were.
 
-ghost use Rattle.{sim_store.specs.Writing.FileCauses, sim_top.specs.Hosting.OfSession, sim_top.specs.Logs.TellsLogs, sim_top.specs.Rigs.AreEight};
+ghost use Rattle.{sim_store.specs.Writing.FileCauses, sim_top.specs.Hosting.OfSession, sim_top.specs.Logs.TellsLogs, sim_top.specs.Rigs.AreFresh};
 ghost use Rattle.std.specs.Prelude.{◌≡◌, ℕ, ◌≢◌, List, [], length, IfSome, IfOk, IsOk, Some, None, string_bytes, All, Option, option_map};
 ghost use Rattle.sim_top.specs.{Commands.IsPrepared, Commands.shelved, Stocks.Balances, Stocks.OfStock, Territories.OfRealm, Territories.Territories};
 ghost use Rattle.sim_top.specs.{Films.Film, Films.OfFilm, Reads.HasEnded, Reads.IsUnfound, Reads.LacksMatch, Stops.status_of, Stops.stop_text as text_of_stop};
@@ -11,7 +11,7 @@ ghost use Rattle.sim_top.specs.Answers.{Causes, CountsBefore, IsSilent, IsUsageT
 ghost use Rattle.sim_top.specs.Common.{Appends, AreCleared, Counts as AllCounts, File, HaveKinds, systems_of, usage_text as text_of_usage};
 ghost use Rattle.sim_top.specs.Making.{file_of, IsAnswered, IsSavedAs, IsSettled, MeetsBefore, SaveMeets, SavesIfDone, Tells};
 
-use crate::commands::{Answer, Saved, answer_to};
+use crate::commands::{Answer, Equipment, Saved};
 use crate::words::request_of;
 use crate::{Status, Stop};
 use sim_base::OutOfMemory;
@@ -112,9 +112,15 @@ pub fn run<S: Shelf, K: Sink>(
     // all others are as they were.
     ensures back { RigsCameBack ⟦<dyn System as System>⟧ (asked_by (words_of words.now)) (S.held shelf.old) result.status rigs result.rigs }
 {
-    let mut rigs = rigs;
-    let answer = made_answer(alloc, words, shelf, &mut rigs, orders, deeds);
+    let mut equipment = Equipment {
+        alloc,
+        rigs,
+        orders,
+        deeds,
+    };
+    let answer = made_answer(words, shelf, &mut equipment);
     let status = finish(shelf, out, &answer);
+    let Equipment { rigs, .. } = equipment;
     Ended { status, rigs }
 }
 
@@ -168,25 +174,26 @@ fn save<S: Shelf>(shelf: &mut S, saved: &Option<Saved<'_>>) -> Result<(), StoreF
 
 // The status, the text and the file that the words come to.
 fn made_answer<'w, S: Shelf>(
-    alloc: Global,
     words: &'w [String],
     shelf: &mut S,
-    rigs: &mut Vec<Rig>,
-    orders: &OrderTable,
-    deeds: &DeedTable,
+    equipment: &mut Equipment<'_>,
 ) -> Answer<'w>
-    requires eight { AreEight ⟦<dyn System as System>⟧ rigs.old.items }
-    requires cleared { All (λ r. AreCleared (systems_of r ⟦<dyn System as System>⟧)) rigs.old.items }
+    requires { AreFresh ⟦<dyn System as System>⟧ equipment.old.rigs.items }
     ensures answer { IsPrepared (words_of words.now) result.status (string_bytes result.text) result.saved (shelved (S.held shelf.old) (S.counts shelf.old))
         (shelved (S.held shelf.new) (S.counts shelf.new)) }
-    ensures back { RigsCameBack ⟦<dyn System as System>⟧ (asked_by (words_of words.now)) (S.held shelf.old) result.status rigs.old rigs.new }
+    ensures back { RigsCameBack ⟦<dyn System as System>⟧ (asked_by (words_of words.now)) (S.held shelf.old) result.status equipment.old.rigs
+        equipment.new.rigs }
 {
     let Some(request) = request_of(words) else {
-        return answered(alloc, Status::Usage, usage_text(alloc));
+        return answered(equipment.alloc, Status::Usage, usage_text(equipment.alloc));
     };
-    match answer_to(alloc, request, shelf, rigs, orders, deeds) {
+    match equipment.answer_to(request, shelf) {
         Ok(answer) => answer,
-        Err(stop) => answered(alloc, stop.status(), stop_text(alloc, &stop)),
+        Err(stop) => answered(
+            equipment.alloc,
+            stop.status(),
+            stop_text(equipment.alloc, &stop),
+        ),
     }
 }
 

@@ -1,17 +1,18 @@
 //! The log of a match, which is stored in a file; and one that is checked, by playing the match as it says.
 
 ghost use Rattle.{sim_replay.specs.Logs.IsOfTurns, sim_top.specs.Common.text_of_log};
-ghost use Rattle.std.specs.Prelude.{◌≡◌, ◌^◌, ◌<◌, length, IfOk, IfErr, OnErr, Some, Err, string_bytes, codes};
+ghost use Rattle.std.specs.Prelude.{◌≡◌, ◌^◌, ◌<◌, length, IfOk, Some, string_bytes, codes};
 ghost use Rattle.sim_top.specs.{Commands.IsAnswerTo, Commands.shelved, Returning.RigsCameBack, Rigs.AreEight, Rigs.HasPlayed, Words.to_check, Words.to_log};
-ghost use Rattle.sim_top.specs.{Making.IsMade, Making.outcome_made, Making.status_made, Outcome.check_by, Outcome.check_outcome, Outcome.logged_as};
-ghost use Rattle.sim_top.specs.Common.{HaveKinds, IsLog, IsSetup, last_state, log_after as log_of_turns, logged_line, match_turns, state_after, systems_of};
+ghost use Rattle.sim_top.specs.{Making.IsMade, Making.IsMadeOf, Making.outcome_made, Making.status_made, Outcome.check_by, Outcome.check_outcome};
+ghost use Rattle.sim_top.specs.{Outcome.logged_as};
+ghost use Rattle.sim_top.specs.Common.{IsLog, last_state, log_after as log_of_turns, logged_line, match_turns, state_after, systems_of};
+ghost use Rattle.sim_play.specs.Playing.{MayBegin};
 
-use super::{Answer, Saved};
+use super::{Answer, Equipment, Saved};
 use crate::inputs::{read_log, read_match};
 use crate::rigs::{put_first, take_first};
 use crate::{Status, Stop};
 use sim_base::{OutOfMemory, Setup};
-use sim_orders::OrderTable;
 use sim_play::{digests_after, match_log};
 use sim_replay::{Digests, Log, first_apart, push_log};
 use sim_report::{push_agree, push_apart, push_logged};
@@ -19,42 +20,41 @@ use sim_store::Shelf;
 use sim_system::{Rig, System};
 use std::alloc::Global;
 
-/// Stores the log of the match of a file.
-pub fn log<'w, S: Shelf>(
-    alloc: Global,
-    shelf: &mut S,
-    game: &'w str,
-    out: &'w str,
-    rigs: &mut Vec<Rig>,
-    orders: &OrderTable,
-) -> Result<Answer<'w>, Stop<'w>>
-    requires { AreEight ⟦<dyn System as System>⟧ rigs.old.items }
-    ensures answer { IsAnswerTo (to_log game.now out.now) result (shelved (S.held shelf.old) (S.counts shelf.old))
-        (shelved (S.held shelf.new) (S.counts shelf.new)) }
-    ensures back { RigsCameBack ⟦<dyn System as System>⟧ (Some (to_log game.now out.now)) (S.held shelf.old) (status_made result) rigs.old rigs.new }
-{
-    let setup = read_match(alloc, shelf, game)?;
-    let rig = take_first(rigs);
-    let (answer, rig) = log_match(alloc, &setup, out, rig, orders);
-    put_first(rigs, rig);
-    answer
-}
+impl Equipment<'_> {
+    /// Stores the log of the match of a file.
+    pub fn log<'w, S: Shelf>(
+        &mut self,
+        shelf: &mut S,
+        game: &'w str,
+        out: &'w str,
+    ) -> Result<Answer<'w>, Stop<'w>>
+        requires { AreEight ⟦<dyn System as System>⟧ self.old.rigs.items }
+        ensures answer { IsAnswerTo (to_log game.now out.now) result (shelved (S.held shelf.old) (S.counts shelf.old))
+            (shelved (S.held shelf.new) (S.counts shelf.new)) }
+        ensures back { RigsCameBack ⟦<dyn System as System>⟧ (Some (to_log game.now out.now)) (S.held shelf.old) (status_made result) self.old.rigs
+            self.new.rigs }
+    {
+        let setup = read_match(self.alloc, shelf, game)?;
+        let rig = take_first(&mut self.rigs);
+        let (answer, rig) = self.log_match(&setup, out, rig);
+        put_first(&mut self.rigs, rig);
+        answer
+    }
 
-// The log of a match as a file and its line.
-fn log_match<'w>(
-    alloc: Global,
-    setup: &Setup,
-    out: &'w str,
-    rig: Rig,
-    orders: &OrderTable,
-) -> (Result<Answer<'w>, Stop<'w>>, Rig)
-    requires limits { IsSetup setup.now }
-    requires kinds { HaveKinds (systems_of rig ⟦<dyn System as System>⟧) }
-    ensures made { IsMade (logged_as (codes "log") setup.now out.now (log_of_turns setup.now (match_turns setup.now))) result.0 }
-    ensures played { HasPlayed ⟦<dyn System as System>⟧ setup.now (last_state setup.now) result.0 rig result.1 }
-{
-    let (log, rig) = match_log(alloc, setup, rig, orders);
-    (stored_log(alloc, "log", setup, log, out), rig)
+    // The log of a match as a file and its line.
+    fn log_match<'w>(
+        &self,
+        setup: &Setup,
+        out: &'w str,
+        rig: Rig,
+    ) -> (Result<Answer<'w>, Stop<'w>>, Rig)
+        requires { MayBegin setup.now (systems_of rig ⟦<dyn System as System>⟧) }
+        ensures made { IsMade (logged_as (codes "log") setup.now out.now (log_of_turns setup.now (match_turns setup.now))) result.0 }
+        ensures played { HasPlayed ⟦<dyn System as System>⟧ setup.now (last_state setup.now) result.0 rig result.1 }
+    {
+        let (log, rig) = match_log(self.alloc, setup, rig, self.orders);
+        (stored_log(self.alloc, "log", setup, log, out), rig)
+    }
 }
 
 /// A log as a file, and its line, which begins with a word; if there was memory for it.
@@ -66,9 +66,7 @@ pub fn stored_log<'w>(
     out: &'w str,
 ) -> Result<Answer<'w>, Stop<'w>>
     requires { IfOk log (IsOfTurns setup.now) }
-    ensures made { IfOk result (λ answer. IfOk log (λ log. outcome_made answer ≡ logged_as word.now setup.now out.now log)) }
-    ensures stops { IfErr result (λ stop. stop ≡ Stop.OutOfMemory) }
-    ensures refused { OnErr log (result ≡ Err Stop.OutOfMemory) }
+    ensures { IsMadeOf log (logged_as word.now setup.now out.now) result }
 {
     let log = log?;
     let (bytes, text) = written(alloc, word, setup, &log)?;
@@ -97,44 +95,49 @@ fn written(
     Ok((bytes, text))
 }
 
-/// Checks the log of a file, by playing the match of another as it says.
-pub fn check<'w, S: Shelf>(
-    alloc: Global,
-    shelf: &mut S,
-    game: &'w str,
-    name: &'w str,
-    rigs: &mut Vec<Rig>,
-    orders: &OrderTable,
-) -> Result<Answer<'w>, Stop<'w>>
-    requires { AreEight ⟦<dyn System as System>⟧ rigs.old.items }
-    ensures answer { IsAnswerTo (to_check game.now name.now) result (shelved (S.held shelf.old) (S.counts shelf.old))
-        (shelved (S.held shelf.new) (S.counts shelf.new)) }
-    ensures back { RigsCameBack ⟦<dyn System as System>⟧ (Some (to_check game.now name.now)) (S.held shelf.old) (status_made result) rigs.old rigs.new }
-{
-    let setup = read_match(alloc, shelf, game)?;
-    let log = read_log(alloc, shelf, &setup, name)?;
-    let rig = take_first(rigs);
-    let (answer, rig) = check_log(alloc, &setup, &log, rig, orders);
-    put_first(rigs, rig);
-    answer
-}
+impl Equipment<'_> {
+    /// Checks the log of a file, by playing the match of another as it says.
+    pub fn check<'w, S: Shelf>(
+        &mut self,
+        shelf: &mut S,
+        game: &'w str,
+        name: &'w str,
+    ) -> Result<Answer<'w>, Stop<'w>>
+        requires { AreEight ⟦<dyn System as System>⟧ self.old.rigs.items }
+        ensures answer { IsAnswerTo (to_check game.now name.now) result (shelved (S.held shelf.old) (S.counts shelf.old))
+            (shelved (S.held shelf.new) (S.counts shelf.new)) }
+        ensures back { RigsCameBack ⟦<dyn System as System>⟧ (Some (to_check game.now name.now)) (S.held shelf.old) (status_made result) self.old.rigs
+            self.new.rigs }
+    {
+        let setup = read_match(self.alloc, shelf, game)?;
+        let log = read_log(self.alloc, shelf, &setup, name)?;
+        let rig = take_first(&mut self.rigs);
+        let (answer, rig) = self.check_log(&setup, &log, rig);
+        put_first(&mut self.rigs, rig);
+        answer
+    }
 
-// Checks a log of a match.
-fn check_log<'w>(
-    alloc: Global,
-    setup: &Setup,
-    log: &Log,
-    rig: Rig,
-    orders: &OrderTable,
-) -> (Result<Answer<'w>, Stop<'w>>, Rig)
-    requires limits { IsSetup setup.now }
-    requires log { IsLog setup.now log.now }
-    requires kinds { HaveKinds (systems_of rig ⟦<dyn System as System>⟧) }
-    ensures made { IsMade (check_outcome setup.now log.now) result.0 }
-    ensures played { HasPlayed ⟦<dyn System as System>⟧ setup.now (state_after setup.now log.now.turns) result.0 rig result.1 }
-{
-    let (played, rig) = digests_after(alloc, setup, log.turns.as_slice(), rig, orders);
-    (compared(alloc, log, played), rig)
+    // Checks a log of a match.
+    fn check_log<'w>(
+        &self,
+        setup: &Setup,
+        log: &Log,
+        rig: Rig,
+    ) -> (Result<Answer<'w>, Stop<'w>>, Rig)
+        requires begins { MayBegin setup.now (systems_of rig ⟦<dyn System as System>⟧) }
+        requires log { IsLog setup.now log.now }
+        ensures made { IsMade (check_outcome setup.now log.now) result.0 }
+        ensures played { HasPlayed ⟦<dyn System as System>⟧ setup.now (state_after setup.now log.now.turns) result.0 rig result.1 }
+    {
+        let (played, rig) = digests_after(
+            self.alloc,
+            setup,
+            log.turns.as_slice(),
+            rig,
+            self.orders,
+        );
+        (compared(self.alloc, log, played), rig)
+    }
 }
 
 // What comes of the digests of a log beside those that were played, if there was memory for these.
@@ -144,9 +147,7 @@ fn compared<'w>(
     played: Result<Digests, OutOfMemory>,
 ) -> Result<Answer<'w>, Stop<'w>>
     requires { length log.now.digests < 2 ^ 32 }
-    ensures made { IfOk result (λ answer. IfOk played (λ played. outcome_made answer ≡ check_by log.now played)) }
-    ensures stops { IfErr result (λ stop. stop ≡ Stop.OutOfMemory) }
-    ensures refused { OnErr played (result ≡ Err Stop.OutOfMemory) }
+    ensures { IsMadeOf played (check_by log.now) result }
 {
     let played = played?;
     Ok(told(alloc, log, &played)?)

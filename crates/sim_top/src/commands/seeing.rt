@@ -1,65 +1,62 @@
 //! What the players of a match see at a turn, and have explored: from its first state on, or from a stored state on with the
 //! explored cells of a file.
 
-ghost use Rattle.std.specs.Prelude.{◌≡◌, ◌≤◌, IfOk, IfErr, OnErr, Some, Err, string_bytes};
-ghost use Rattle.sim_top.specs.{Commands.IsAnswerTo, Commands.shelved, Making.IsMade, Making.IsMadeAs, Making.outcome_made, Making.status_made};
+ghost use Rattle.std.specs.Prelude.{◌≡◌, Some, string_bytes};
+ghost use Rattle.sim_top.specs.{Commands.IsAnswerTo, Commands.shelved, Making.IsMade, Making.IsMadeOf, Making.IsMadeAs, Making.status_made};
 ghost use Rattle.sim_top.specs.{Outcome.IsSeenFrom, Outcome.seen_with, Outcome.sight_outcome, Rigs.AreEight, Rigs.HasPlayed, Words.to_resight, Words.to_sight};
-ghost use Rattle.sim_top.specs.Common.{after, end_from, HaveKinds, IsSetup, IsValid, own_turns, systems_of};
+ghost use Rattle.sim_top.specs.Common.{after, end_from, own_turns, systems_of};
 ghost use Rattle.sim_top.specs.Returning.{RigsCameBack};
+ghost use Rattle.sim_play.specs.Playing.{MayReach, MayResume};
 
 use super::storing::reached;
-use super::{Answer, Saved, shown};
+use super::{Answer, Equipment, Saved, shown};
 use crate::inputs::{read_match, read_sight, read_state};
 use crate::rigs::{put_first, take_first};
 use crate::{Status, Stop};
 use sim_base::{OutOfMemory, Setup, State};
-use sim_orders::OrderTable;
 use sim_play::{resight_text, sight_at};
 use sim_store::Shelf;
 use sim_system::{Rig, System};
 use sim_vision::Sight;
-use std::alloc::Global;
 
-/// Tells what the players see at a turn of the match of a file, and stores what they have explored.
-pub fn sight<'w, S: Shelf>(
-    alloc: Global,
-    shelf: &mut S,
-    game: &'w str,
-    turn: u32,
-    out: &'w str,
-    rigs: &mut Vec<Rig>,
-    orders: &OrderTable,
-) -> Result<Answer<'w>, Stop<'w>>
-    requires { AreEight ⟦<dyn System as System>⟧ rigs.old.items }
-    ensures answer { IsAnswerTo (to_sight game.now turn out.now) result (shelved (S.held shelf.old) (S.counts shelf.old))
-        (shelved (S.held shelf.new) (S.counts shelf.new)) }
-    ensures back { RigsCameBack ⟦<dyn System as System>⟧ (Some (to_sight game.now turn out.now)) (S.held shelf.old) (status_made result) rigs.old rigs.new }
-{
-    let setup = read_match(alloc, shelf, game)?;
-    reached(&setup, turn)?;
-    let rig = take_first(rigs);
-    let (answer, rig) = seen_at(alloc, &setup, turn, out, rig, orders);
-    put_first(rigs, rig);
-    answer
-}
+impl Equipment<'_> {
+    /// Tells what the players see at a turn of the match of a file, and stores what they have explored.
+    pub fn sight<'w, S: Shelf>(
+        &mut self,
+        shelf: &mut S,
+        game: &'w str,
+        turn: u32,
+        out: &'w str,
+    ) -> Result<Answer<'w>, Stop<'w>>
+        requires { AreEight ⟦<dyn System as System>⟧ self.old.rigs.items }
+        ensures answer { IsAnswerTo (to_sight game.now turn out.now) result (shelved (S.held shelf.old) (S.counts shelf.old))
+            (shelved (S.held shelf.new) (S.counts shelf.new)) }
+        ensures back { RigsCameBack ⟦<dyn System as System>⟧ (Some (to_sight game.now turn out.now)) (S.held shelf.old) (status_made result) self.old.rigs
+            self.new.rigs }
+    {
+        let setup = read_match(self.alloc, shelf, game)?;
+        reached(&setup, turn)?;
+        let rig = take_first(&mut self.rigs);
+        let (answer, rig) = self.seen_at(&setup, turn, out, rig);
+        put_first(&mut self.rigs, rig);
+        answer
+    }
 
-// Tells what the players see at a turn that the match has.
-fn seen_at<'w>(
-    alloc: Global,
-    setup: &Setup,
-    turn: u32,
-    out: &'w str,
-    rig: Rig,
-    orders: &OrderTable,
-) -> (Result<Answer<'w>, Stop<'w>>, Rig)
-    requires limits { IsSetup setup.now }
-    requires within { turn ≤ setup.now.turns }
-    requires kinds { HaveKinds (systems_of rig ⟦<dyn System as System>⟧) }
-    ensures made { IsMade (sight_outcome setup.now turn out.now) result.0 }
-    ensures played { HasPlayed ⟦<dyn System as System>⟧ setup.now (after setup.now (own_turns setup.now 0 turn)) result.0 rig result.1 }
-{
-    let (told, rig) = sight_at(alloc, setup, turn, rig, orders);
-    (kept_sight(told, out), rig)
+    // Tells what the players see at a turn that the match has.
+    fn seen_at<'w>(
+        &self,
+        setup: &Setup,
+        turn: u32,
+        out: &'w str,
+        rig: Rig,
+    ) -> (Result<Answer<'w>, Stop<'w>>, Rig)
+        requires { MayReach setup.now turn (systems_of rig ⟦<dyn System as System>⟧) }
+        ensures made { IsMade (sight_outcome setup.now turn out.now) result.0 }
+        ensures played { HasPlayed ⟦<dyn System as System>⟧ setup.now (after setup.now (own_turns setup.now 0 turn)) result.0 rig result.1 }
+    {
+        let (told, rig) = sight_at(self.alloc, setup, turn, rig, self.orders);
+        (kept_sight(told, out), rig)
+    }
 }
 
 // The lines of what is seen and the file of what is explored, if there was memory for them.
@@ -67,9 +64,7 @@ fn kept_sight<'w>(
     told: Result<(String, Vec<u8>), OutOfMemory>,
     out: &'w str,
 ) -> Result<Answer<'w>, Stop<'w>>
-    ensures made { IfOk result (λ answer. IfOk told (λ told. outcome_made answer ≡ seen_with (string_bytes told.0) out.now told.1.items)) }
-    ensures stops { IfErr result (λ stop. stop ≡ Stop.OutOfMemory) }
-    ensures refused { OnErr told (result ≡ Err Stop.OutOfMemory) }
+    ensures { IsMadeOf told (λ told. seen_with (string_bytes told.0) out.now told.1.items) result }
 {
     let (text, bytes) = told?;
     Ok(Answer {
@@ -79,48 +74,45 @@ fn kept_sight<'w>(
     })
 }
 
-/// Tells what the players see at the end of the match of a file, from a state that is stored in another on and the explored
-/// cells of a third.
-pub fn resight<'w, S: Shelf>(
-    alloc: Global,
-    shelf: &mut S,
-    game: &'w str,
-    name: &'w str,
-    map: &'w str,
-    rigs: &mut Vec<Rig>,
-    orders: &OrderTable,
-) -> Result<Answer<'w>, Stop<'w>>
-    requires { AreEight ⟦<dyn System as System>⟧ rigs.old.items }
-    ensures answer { IsAnswerTo (to_resight game.now name.now map.now) result (shelved (S.held shelf.old) (S.counts shelf.old))
-        (shelved (S.held shelf.new) (S.counts shelf.new)) }
-    ensures back { RigsCameBack ⟦<dyn System as System>⟧ (Some (to_resight game.now name.now map.now)) (S.held shelf.old)
-        (status_made result) rigs.old rigs.new }
-{
-    let setup = read_match(alloc, shelf, game)?;
-    let state = read_state(alloc, shelf, &setup, name)?;
-    let sight = read_sight(alloc, shelf, &setup, &state, map)?;
-    let rig = take_first(rigs);
-    let (answer, rig) = resight_match(alloc, &setup, state, sight, rig, orders);
-    put_first(rigs, rig);
-    answer
-}
+impl Equipment<'_> {
+    /// Tells what the players see at the end of the match of a file, from a state that is stored in another on and the explored
+    /// cells of a third.
+    pub fn resight<'w, S: Shelf>(
+        &mut self,
+        shelf: &mut S,
+        game: &'w str,
+        name: &'w str,
+        map: &'w str,
+    ) -> Result<Answer<'w>, Stop<'w>>
+        requires { AreEight ⟦<dyn System as System>⟧ self.old.rigs.items }
+        ensures answer { IsAnswerTo (to_resight game.now name.now map.now) result (shelved (S.held shelf.old) (S.counts shelf.old))
+            (shelved (S.held shelf.new) (S.counts shelf.new)) }
+        ensures back { RigsCameBack ⟦<dyn System as System>⟧ (Some (to_resight game.now name.now map.now)) (S.held shelf.old)
+            (status_made result) self.old.rigs self.new.rigs }
+    {
+        let setup = read_match(self.alloc, shelf, game)?;
+        let state = read_state(self.alloc, shelf, &setup, name)?;
+        let sight = read_sight(self.alloc, shelf, &setup, &state, map)?;
+        let rig = take_first(&mut self.rigs);
+        let (answer, rig) = self.resight_match(&setup, state, sight, rig);
+        put_first(&mut self.rigs, rig);
+        answer
+    }
 
-// Tells what the players see at the end of a match, from a state on at which a sight was joined.
-fn resight_match<'w>(
-    alloc: Global,
-    setup: &Setup,
-    state: State,
-    sight: Sight<'_>,
-    rig: Rig,
-    orders: &OrderTable,
-) -> (Result<Answer<'w>, Stop<'w>>, Rig)
-    requires limits { IsSetup setup.now }
-    requires valid { IsValid setup.now state }
-    requires same { sight.setup ≡ setup.now }
-    requires kinds { HaveKinds (systems_of rig ⟦<dyn System as System>⟧) }
-    ensures made { IsMadeAs (IsSeenFrom setup.now state sight.entry) result.0 }
-    ensures played { HasPlayed ⟦<dyn System as System>⟧ setup.now (end_from setup.now state) result.0 rig result.1 }
-{
-    let (text, rig) = resight_text(alloc, setup, state, sight, rig, orders);
-    (shown(text), rig)
+    // Tells what the players see at the end of a match, from a state on at which a sight was joined.
+    fn resight_match<'w>(
+        &self,
+        setup: &Setup,
+        state: State,
+        sight: Sight<'_>,
+        rig: Rig,
+    ) -> (Result<Answer<'w>, Stop<'w>>, Rig)
+        requires resumes { MayResume setup.now state (systems_of rig ⟦<dyn System as System>⟧) }
+        requires same { sight.setup ≡ setup.now }
+        ensures made { IsMadeAs (IsSeenFrom setup.now state sight.entry) result.0 }
+        ensures played { HasPlayed ⟦<dyn System as System>⟧ setup.now (end_from setup.now state) result.0 rig result.1 }
+    {
+        let (text, rig) = resight_text(self.alloc, setup, state, sight, rig, self.orders);
+        (shown(text), rig)
+    }
 }

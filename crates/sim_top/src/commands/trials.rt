@@ -3,54 +3,50 @@
 ghost use Rattle.std.specs.Prelude.{◌≡◌, List, IfOk, OnErr, IsErr, Some, string_bytes, Option};
 ghost use Rattle.sim_top.specs.{Commands.IsAnswerTo, Commands.Shelved, Making.IsMade, Making.status_made, Outcome.trial_outcome, Rigs.AreEight, Rigs.HasPlayed};
 ghost use Rattle.sim_top.specs.{Returning.RigsCameBack, Words.to_try};
-ghost use Rattle.sim_top.specs.Common.{after, File, HaveKinds, IsSetup, IsTrial, IsValid, own_turns, systems_of, trial_line};
+ghost use Rattle.sim_top.specs.Common.{after, File, IsTrial, IsValid, own_turns, systems_of, trial_line};
+ghost use Rattle.sim_play.specs.Playing.{MayBegin};
 
-use super::{Answer, shown};
+use super::{Answer, Equipment, shown};
 use crate::inputs::trial_match;
 use crate::rigs::{put_first, take_first};
 use crate::stop::Stop;
 use sim_base::{OutOfMemory, Setup, State};
-use sim_orders::OrderTable;
 use sim_play::{push_trial, state_at};
 use sim_system::{Rig, System};
 use std::alloc::Global;
 
-/// Plays the match of a trial, which has a seed, so many soldiers and so many turns.
-pub fn trial<'w>(
-    alloc: Global,
-    numbers: (u32, u32, u32),
-    rigs: &mut Vec<Rig>,
-    orders: &OrderTable,
-) -> Result<Answer<'w>, Stop<'w>>
-    requires limits { IsTrial numbers.0 numbers.1 numbers.2 }
-    requires eight { AreEight ⟦<dyn System as System>⟧ rigs.old.items }
-    ensures answer { (shelf : Shelved) → IsAnswerTo (to_try numbers.0 numbers.1 numbers.2) result shelf shelf }
-    ensures back { (held : Option (List File)) → RigsCameBack ⟦<dyn System as System>⟧ (Some (to_try numbers.0 numbers.1 numbers.2)) held (status_made result)
-        rigs.old rigs.new }
-{
-    let (seed, units, turns) = numbers;
-    let setup = trial_match(alloc, seed, units, turns)?;
-    let rig = take_first(rigs);
-    let (answer, rig) = tried(alloc, numbers, &setup, rig, orders);
-    put_first(rigs, rig);
-    answer
-}
+impl Equipment<'_> {
+    /// Plays the match of a trial, which has a seed, so many soldiers and so many turns.
+    pub fn trial<'w>(&mut self, numbers: (u32, u32, u32)) -> Result<Answer<'w>, Stop<'w>>
+        requires limits { IsTrial numbers.0 numbers.1 numbers.2 }
+        requires eight { AreEight ⟦<dyn System as System>⟧ self.old.rigs.items }
+        ensures answer { (shelf : Shelved) → IsAnswerTo (to_try numbers.0 numbers.1 numbers.2) result shelf shelf }
+        ensures back { (held : Option (List File)) → RigsCameBack ⟦<dyn System as System>⟧ (Some (to_try numbers.0 numbers.1 numbers.2)) held
+            (status_made result)
+            self.old.rigs self.new.rigs }
+    {
+        let (seed, units, turns) = numbers;
+        let setup = trial_match(self.alloc, seed, units, turns)?;
+        let rig = take_first(&mut self.rigs);
+        let (answer, rig) = self.tried(numbers, &setup, rig);
+        put_first(&mut self.rigs, rig);
+        answer
+    }
 
-// Plays the match that was made of a trial's numbers.
-fn tried<'w>(
-    alloc: Global,
-    numbers: (u32, u32, u32),
-    setup: &Setup,
-    rig: Rig,
-    orders: &OrderTable,
-) -> (Result<Answer<'w>, Stop<'w>>, Rig)
-    requires limits { IsSetup setup.now }
-    requires kinds { HaveKinds (systems_of rig ⟦<dyn System as System>⟧) }
-    ensures made { IsMade (trial_outcome numbers.0 numbers.1 numbers.2 setup.now) result.0 }
-    ensures played { HasPlayed ⟦<dyn System as System>⟧ setup.now (after setup.now (own_turns setup.now 0 setup.now.turns)) result.0 rig result.1 }
-{
-    let (state, rig) = state_at(alloc, setup, setup.turns, rig, orders);
-    (shown(trial_text(alloc, numbers, setup, state)), rig)
+    // Plays the match that was made of a trial's numbers.
+    fn tried<'w>(
+        &self,
+        numbers: (u32, u32, u32),
+        setup: &Setup,
+        rig: Rig,
+    ) -> (Result<Answer<'w>, Stop<'w>>, Rig)
+        requires { MayBegin setup.now (systems_of rig ⟦<dyn System as System>⟧) }
+        ensures made { IsMade (trial_outcome numbers.0 numbers.1 numbers.2 setup.now) result.0 }
+        ensures played { HasPlayed ⟦<dyn System as System>⟧ setup.now (after setup.now (own_turns setup.now 0 setup.now.turns)) result.0 rig result.1 }
+    {
+        let (state, rig) = state_at(self.alloc, setup, setup.turns, rig, self.orders);
+        (shown(trial_text(self.alloc, numbers, setup, state)), rig)
+    }
 }
 
 // The line of a trial, if there was memory for its last state.

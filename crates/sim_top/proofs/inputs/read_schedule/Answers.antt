@@ -1,23 +1,20 @@
 -- The bytes of the file were read, or they were not read to their end.
-use Rattle.sim_top.proofs.Common.{◌≡◌, IfErr, Err, Result, IsOfList, IsReading, rules, Schedule, shelved, Stop, subst, sym}
-use Rattle.sim_top.proofs.Counting.{counted_is, unread, was_read}
+use Rattle.sim_lists.specs.Schedules.{IsSchedule}
+use Rattle.sim_top.{proofs.Counting.has_read, proofs.Counting.not_read, specs.Commands.HasRead}
+use Rattle.sim_top.proofs.Common.{◌≡◌, Err, IsOfList, Result, rules, Schedule, shelved, Stop, subst, sym}
 use Rattle.sim_top.proofs.inputs.read_schedule.Goals as goal
 
-pub returns-in_err-bytes-clause-stops : goal.returns-in_err-bytes-clause-stops
-returns-in_err-bytes-clause-stops g c =
-    let is : c.from_residual.result ≡ Err c.in_err-bytes.field-0.0 = search rules in
-    subst (λ (r : Result Schedule Stop). IfErr r IsOfList) (sym is) (counted_is IsOfList tt tt tt tt c.in_err-bytes.field-0.0 _ _ c.in_err-bytes.ensures.causes)
-
-pub returns-in_err-bytes-clause-reading : goal.returns-in_err-bytes-clause-reading
-returns-in_err-bytes-clause-reading g c =
+pub returns-in_err-bytes-clause-read : goal.returns-in_err-bytes-clause-read
+returns-in_err-bytes-clause-read g c =
     let is : c.from_residual.result ≡ Err c.in_err-bytes.field-0.0 = search rules in
     let before = shelved (g.S.Shelf.held c.args.shelf.now) (g.S.Shelf.counts c.args.shelf.now) in
     let now = shelved (g.S.Shelf.held c.read_bytes.new.shelf) (g.S.Shelf.counts c.read_bytes.new.shelf) in
-    subst (λ (r : Result Schedule Stop). IsReading c.args.name.now r before now) (sym is)
-    (unread c.args.name.now c.in_err-bytes.field-0.0 before now c.in_err-bytes.ensures.causes c.in_err-bytes.ensures.missing c.read_bytes.ensures.held)
+    subst (λ (r : Result Schedule Stop). HasRead r IsSchedule IsOfList c.args.name.now before now) (sym is)
+    (not_read IsSchedule IsOfList tt tt tt tt c.args.name.now c.in_err-bytes.field-0.0 before now c.in_err-bytes.ensures.causes c.in_err-bytes.ensures.missing
+    c.read_bytes.ensures.held)
 
-pub returns-clause-reading : goal.returns-clause-reading
-returns-clause-reading g c =
-    was_read c.args.name.now c.in_ok-bytes.bytes.items c.schedule_from.result _ _ c.schedule_from.ensures.content c.in_ok-bytes.ensures.causes
-    c.in_ok-bytes.ensures.tells c.in_ok-bytes.ensures.missing
-    c.read_bytes.ensures.held
+pub returns-clause-read : goal.returns-clause-read
+returns-clause-read g c =
+    has_read IsSchedule IsOfList c.args.name.now c.in_ok-bytes.bytes.items c.schedule_from.result _ _ c.schedule_from.ensures.parsed
+    c.in_ok-bytes.ensures.causes
+    c.in_ok-bytes.ensures.tells c.in_ok-bytes.ensures.missing c.read_bytes.ensures.held

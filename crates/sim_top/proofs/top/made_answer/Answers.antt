@@ -12,7 +12,7 @@ returns-in-Ok-clause-answer g c = of_answer (words_of c.args.words.now) (asked c
 pub returns-in-Ok-clause-back : goal.returns-in-Ok-clause-back
 returns-in-Ok-clause-back g c =
     subst (λ (o : Option Asked). RigsCameBackBy (λ i v. (goal.System-dyn g (i, v)).meaning v) o (g.S.Shelf.held c.args.shelf.now) c.in-Ok.answer.status
-    c.args.rigs.now c.answer_to.new.rigs) c.in-Some.ensures.asked c.in-Ok.ensures.back
+    c.args.equipment.now.rigs c.answer_to.new.self.rigs) c.in-Some.ensures.asked c.in-Ok.ensures.back
 
 pub returns-in-Err-clause-answer : goal.returns-in-Err-clause-answer
 returns-in-Err-clause-answer g c =
@@ -28,12 +28,13 @@ returns-in-Err-clause-back g c =
     let made = c.answered-in-Err.result in
     let text = string_bytes made.text in
     let held = g.S.Shelf.held c.args.shelf.now in
-    rigs_later (λ i v. (goal.System-dyn g (i, v)).meaning v) (asked_by (words_of c.args.words.now)) held (status_of c.in-Err.stop) made.status c.args.rigs.now
-    c.answer_to.new.rigs
+    rigs_later (λ i v. (goal.System-dyn g (i, v)).meaning v) (asked_by (words_of c.args.words.now)) held (status_of c.in-Err.stop) made.status
+    c.args.equipment.now.rigs
+    c.answer_to.new.self.rigs
     (answered_settled (status_of c.in-Err.stop) made.status text c.stop_text.result (subst (λ (s : Status). IsAnswered made.status text s c.stop_text.result)
     c.status.ensures c.answered-in-Err.ensures.answer))
-    (subst (λ (o : Option Asked). RigsCameBackBy (λ i v. (goal.System-dyn g (i, v)).meaning v) o held (status_of c.in-Err.stop) c.args.rigs.now
-    c.answer_to.new.rigs) c.in-Some.ensures.asked c.in-Err.ensures.back)
+    (subst (λ (o : Option Asked). RigsCameBackBy (λ i v. (goal.System-dyn g (i, v)).meaning v) o held (status_of c.in-Err.stop) c.args.equipment.now.rigs
+    c.answer_to.new.self.rigs) c.in-Some.ensures.asked c.in-Err.ensures.back)
 
 -- words that are in no table make no request, and use no rig
 none_asked : (request : Option Request) (wanted : Option Asked) → ((r : Request) → request ≡ Some r → ⊥) → option_map asked request ≡ wanted → wanted ≡ None
@@ -50,5 +51,5 @@ returns-in_default-clause-answer g c =
 pub returns-in_default-clause-back : goal.returns-in_default-clause-back
 returns-in_default-clause-back g c =
     rigs_same (λ i v. (goal.System-dyn g (i, v)).meaning v) (asked_by (words_of c.args.words.now)) (g.S.Shelf.held c.args.shelf.now) c.answered.result.status
-    c.args.rigs.now c.requires.eight
+    c.args.equipment.now.rigs c.requires.eight
     (λ ended. ap used (none_asked c.request_of.result (asked_by (words_of c.args.words.now)) c.in_default.not-Some c.request_of.ensures.asked))

@@ -7,8 +7,8 @@ use Rattle.sim_top.proofs.Common.{List, IfSome, string_bytes, Option, option_map
 use Rattle.sim_top.proofs.Common.{Setup, StepList, subst, TellsLogs, TellsSights, Territories, usage_text, words_of, ◌∙◌}
 use Rattle.sim_top.proofs.top.run.Goals as goal
 
-pub made_answer-answer-requires-clause-eight : goal.made_answer-answer-requires-clause-eight
-made_answer-answer-requires-clause-eight g c = record { count = c.requires.eight; kinds = c.requires.kinds }
+pub made_answer-answer-requires : goal.made_answer-answer-requires
+made_answer-answer-requires g c = record { eight = record { count = c.requires.eight; kinds = c.requires.kinds }; cleared = c.requires.cleared }
 
 pub returns-clause-answers : goal.returns-clause-answers
 returns-clause-answers g c =
@@ -55,7 +55,7 @@ pub returns-clause-back : goal.returns-clause-back
 returns-clause-back g c =
     rigs_later (λ i v. (goal.System-dyn g (i, v)).meaning v) (asked_by (words_of c.args.words.now)) (g.S.Shelf.held c.args.shelf.now)
     c.made_answer-answer.result.status c.finish-status.result
-    c.args.rigs c.made_answer-answer.new.rigs (λ settled. (c.finish-status.ensures.settled settled).0) c.made_answer-answer.ensures.back
+    c.args.rigs c.made_answer-answer.new.equipment.rigs (λ settled. (c.finish-status.ensures.settled settled).0) c.made_answer-answer.ensures.back
 
 -- what was told of a session is its text, which the laws of sessions are about
 pub returns-clause-headline : goal.returns-clause-headline
@@ -65,7 +65,7 @@ returns-clause-headline g c =
     let now = scene (g.S.Shelf.held c.finish-status.new.shelf) (g.K.Sink.told c.finish-status.new.out) (g.S.Shelf.counts c.finish-status.new.shelf)
     (g.K.Sink.faults c.finish-status.new.out) in
     let hosted = λ (setup : Setup) (list : StepList). IsHostedBy (λ i v. (goal.System-dyn g (i, v)).meaning v) setup list c.args.rigs.items
-    c.made_answer-answer.new.rigs.items in
+    c.made_answer-answer.new.equipment.rigs.items in
     let rigs = returns-clause-back g c in
     Told-both (λ files. Meets c.finish-status.result words files before now) (λ files. HasEnded c.finish-status.result
     → OfSession files (asked_by words) hosted)

@@ -18,15 +18,16 @@ returns-in_err-setup g c =
     let before = shelved (g.S.Shelf.held c.args.shelf.now) (g.S.Shelf.counts c.args.shelf.now) in
     let now = shelved (g.S.Shelf.held c.read_match.new.shelf) (g.S.Shelf.counts c.read_match.new.shelf) in
     subst (λ (r : Result Answer Stop). IsAnswerTo (to_parts game) r before now) (sym is)
-    (match_ends (to_parts game) game (λ files. match_in files game) c.in_err-setup.field-0.0 before now (opens game) c.in_err-setup.ensures.stops
-    c.in_err-setup.ensures.tells c.in_err-setup.ensures.reading)
+    (match_ends (to_parts game) game (λ files. match_in files game) c.in_err-setup.field-0.0 before now (opens game) c.in_err-setup.ensures.read.stops
+    c.in_err-setup.ensures.tells c.in_err-setup.ensures.read.reading)
 
 pub returns : goal.returns
 returns g c =
     let game = c.args.game.now in
     let setup = c.in_ok-setup.setup in
     let text = parts_text setup.templates in
-    match_goes_on (to_parts game) game (λ files. match_in files game) setup (printed Done text) c.shown.result _ _ (opens game) c.in_ok-setup.ensures.reading
+    match_goes_on (to_parts game) game (λ files. match_in files game) setup (printed Done text) c.shown.result _ _ (opens game)
+    c.in_ok-setup.ensures.read.reading
     c.in_ok-setup.ensures.tells
     (λ files e. Then-read (match_in files game) setup told (printed Done text) e refl) (λ files. refl)
     (text_made c.shown.result c.parts_text.result text c.shown.ensures.stops c.shown.ensures.refused c.shown.ensures.made c.parts_text.ensures)

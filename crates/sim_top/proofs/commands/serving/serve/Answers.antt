@@ -17,18 +17,18 @@ returns-in_err-schedule g c =
     let before = shelved (g.S.Shelf.held c.args.shelf.now) (g.S.Shelf.counts c.args.shelf.now) in
     let now = shelved (g.S.Shelf.held c.read_schedule.new.shelf) (g.S.Shelf.counts c.read_schedule.new.shelf) in
     subst (λ (r : Result Answer Stop). IsAnswerTo (to_serve name) r before now) (sym is)
-    (list_ends_at (to_serve name) stop before now refl refl c.in_err-schedule.ensures.stops
+    (list_ends_at (to_serve name) stop before now refl refl c.in_err-schedule.ensures.read.stops
     (Told (λ files. Stopped stop (λ ended. schedule_in files name ≡ Err ended)) (λ files. Stopped stop (IsOutcomeOf files (Some (to_serve name)))) before.held
     (λ files h. Stopped-weaker stop (λ ended. schedule_in files name ≡ Err ended) (IsOutcomeOf files (Some (to_serve name)))
     (λ o e. Then-ended (schedule_in files name) served o e) h) c.in_err-schedule.ensures.tells)
-    c.in_err-schedule.ensures.reading.causes c.in_err-schedule.ensures.reading.missing c.in_err-schedule.ensures.reading.given
-    c.in_err-schedule.ensures.reading.same)
+    c.in_err-schedule.ensures.read.reading.causes c.in_err-schedule.ensures.read.reading.missing c.in_err-schedule.ensures.read.reading.given
+    c.in_err-schedule.ensures.read.reading.same)
 
 pub returns : goal.returns
 returns g c =
     let name = c.args.name.now in
     let schedule = c.in_ok-schedule.schedule in
-    let reading = c.in_ok-schedule.ensures.reading in
+    let reading = c.in_ok-schedule.ensures.read.reading in
     comes_to (to_serve name) (printed Done (served_text schedule)) c.shown.result _ _
     (text_made c.shown.result c.served_text.result (served_text schedule) c.shown.ensures.stops c.shown.ensures.refused c.shown.ensures.made
     c.served_text.ensures)

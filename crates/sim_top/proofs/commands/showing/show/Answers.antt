@@ -25,7 +25,7 @@ returns-in_err-setup g c =
     let now = shelved (g.S.Shelf.held c.read_match.new.shelf) (g.S.Shelf.counts c.read_match.new.shelf) in
     subst (λ (r : Result Answer Stop). IsAnswerTo (to_show game c.args.name.now) r before now) (sym is)
     (match_ends (to_show game c.args.name.now) game (λ files. match_in files game) c.in_err-setup.field-0.0 before now ((loads game c.args.name.now).opens)
-    c.in_err-setup.ensures.stops c.in_err-setup.ensures.tells c.in_err-setup.ensures.reading)
+    c.in_err-setup.ensures.read.stops c.in_err-setup.ensures.tells c.in_err-setup.ensures.read.reading)
 
 pub returns-in_err-state : goal.returns-in_err-state
 returns-in_err-state g c =
@@ -35,10 +35,10 @@ returns-in_err-state g c =
     let now = shelved (g.S.Shelf.held c.read_state.new.shelf) (g.S.Shelf.counts c.read_state.new.shelf) in
     subst (λ (r : Result Answer Stop). IsAnswerTo (to_show c.args.game.now c.args.name.now) r before now) (sym is)
     (stored_ends (to_show c.args.game.now c.args.name.now) c.args.game.now c.args.name.now seen (loads c.args.game.now c.args.name.now) c.in_ok-setup.setup
-    before middle now c.in_ok-setup.ensures.reading
-    c.in_ok-setup.ensures.tells c.in_err-state.field-0.0 c.in_err-state.ensures.stops c.in_err-state.ensures.reading c.in_err-state.ensures.tells
+    before middle now c.in_ok-setup.ensures.read.reading
+    c.in_ok-setup.ensures.tells c.in_err-state.field-0.0 c.in_err-state.ensures.read.stops c.in_err-state.ensures.read.reading c.in_err-state.ensures.tells
     (λ files e refused. both_given c.args.game.now c.args.name.now c.in_ok-setup.setup (Err c.in_err-state.field-0.0) before middle now
-    c.in_ok-setup.ensures.reading c.in_err-state.ensures.reading files e refused))
+    c.in_ok-setup.ensures.read.reading c.in_err-state.ensures.read.reading files e refused))
 
 pub returns : goal.returns
 returns g c =
@@ -46,8 +46,8 @@ returns g c =
     let name = c.args.name.now in
     let setup = c.in_ok-setup.setup in
     let state = c.in_ok-state.state in
-    stored_goes_on (to_show game name) game name seen (loads game name) setup _ _ _ c.in_ok-setup.ensures.reading c.in_ok-setup.ensures.tells state
+    stored_goes_on (to_show game name) game name seen (loads game name) setup _ _ _ c.in_ok-setup.ensures.read.reading c.in_ok-setup.ensures.tells state
     (printed Done (show_text setup state)) c.shown.result
-    c.in_ok-state.ensures.reading c.in_ok-state.ensures.tells (λ files. refl) (λ files. refl)
+    c.in_ok-state.ensures.read.reading c.in_ok-state.ensures.tells (λ files. refl) (λ files. refl)
     (text_made c.shown.result c.show_text.result (show_text setup state) c.shown.ensures.stops c.shown.ensures.refused c.shown.ensures.made c.show_text.ensures)
     (record { status = tt; done = tt; file = tt })

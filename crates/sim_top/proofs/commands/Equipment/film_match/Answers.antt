@@ -1,0 +1,16 @@
+-- The states of the match are told, or there was no memory.
+use Rattle.sim_top.proofs.{Common.film_text, Playing.made_if, Playing.text_made}
+use Rattle.sim_top.proofs.commands.Equipment.film_match.Goals as goal
+
+pub returns-clause-made : goal.returns-clause-made
+returns-clause-made g c =
+    text_made c.shown.result c.film_text-text.result.0 (film_text c.args.setup.now c.args.every) c.shown.ensures.stops c.shown.ensures.refused
+    c.shown.ensures.made c.film_text-text.ensures.text
+
+pub returns-clause-played : goal.returns-clause-played
+returns-clause-played g c =
+    record {
+      fed = made_if c.shown.result c.film_text-text.result.0 c.shown.ensures.stops c.shown.ensures.refused _ c.film_text-text.ensures.played.fed;
+      kinds = c.film_text-text.ensures.played.kinds;
+      most = c.film_text-text.ensures.played.most;
+    }

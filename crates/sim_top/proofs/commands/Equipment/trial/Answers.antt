@@ -1,0 +1,58 @@
+-- The match of the trial was made and played, or refused.
+use Rattle.sim_top.proofs.Answering.{trial_ends, trial_goes_on}
+use Rattle.sim_top.proofs.Common.{status_made, Stop, subst, sym, systems_by, to_try, trial_match, trial_outcome, ◌∙◌}
+use Rattle.sim_top.proofs.Common.{◌≡◌, List, Some, Err, Result, refl, after, Answer, AreFed, File, IsAnswerTo, own_turns, RigsCameBackBy, rules, Setup}
+use Rattle.sim_top.proofs.Returning.{first_played, kind_of_first, rigs_left, room_for, stands_read, whatever_held}
+use Rattle.sim_top.proofs.commands.Equipment.trial.Goals as goal
+
+pub returns-in_err-setup-clause-answer : goal.returns-in_err-setup-clause-answer
+returns-in_err-setup-clause-answer g c =
+    λ shelf.
+    let is : c.from_residual.result ≡ Err c.in_err-setup.field-0.0 = search rules in
+    let n = c.args.numbers in
+    subst (λ (r : Result Answer Stop). IsAnswerTo (to_try n.0 n.1 n.2) r shelf shelf) (sym is)
+    (trial_ends n.0 n.1 n.2 shelf c.in_err-setup.field-0.0 c.in_err-setup.ensures.parsed.stops c.in_err-setup.ensures.parsed.content
+    c.in_err-setup.ensures.tells)
+
+pub returns-in_err-setup-clause-back : goal.returns-in_err-setup-clause-back
+returns-in_err-setup-clause-back g c =
+    λ held.
+    let is : c.from_residual.result ≡ Err c.in_err-setup.field-0.0 = search rules in
+    let n = c.args.numbers in
+    subst (λ (r : Result Answer Stop). RigsCameBackBy (λ i v. (goal.System-dyn g (i, v)).meaning v) (Some (to_try n.0 n.1 n.2)) held (status_made r)
+    c.args.self.now.rigs c.args.self.now.rigs) (sym is)
+    (rigs_left (λ i v. (goal.System-dyn g (i, v)).meaning v) (Some (to_try n.0 n.1 n.2)) held c.in_err-setup.field-0.0 c.args.self.now.rigs c.requires.eight)
+
+pub tried-answer-requires : goal.tried-answer-requires
+tried-answer-requires g c = record {
+  limits = c.in_ok-setup.ensures.parsed.good;
+  kinds = kind_of_first (λ i v. (goal.System-dyn g (i, v)).meaning v) c.args.self.now.rigs.items c.take_first-rig.new.rigs.items c.take_first-rig.result
+      c.take_first-rig.ensures.items c.requires.eight.kinds;
+}
+
+pub put_first-requires : goal.put_first-requires
+put_first-requires g c =
+    room_for (λ i v. (goal.System-dyn g (i, v)).meaning v) c.args.self.now.rigs c.take_first-rig.new.rigs c.take_first-rig.result c.take_first-rig.ensures.items
+    c.take_first-rig.ensures.room
+
+pub returns-clause-answer : goal.returns-clause-answer
+returns-clause-answer g c =
+    λ shelf.
+    let n = c.args.numbers in
+    trial_goes_on n.0 n.1 n.2 shelf c.in_ok-setup.setup c.tried-answer.result.0 c.in_ok-setup.ensures.tells c.tried-answer.ensures.made
+
+pub returns-clause-back : goal.returns-clause-back
+returns-clause-back g c =
+    λ held.
+    let n = c.args.numbers in
+    let setup = c.in_ok-setup.setup in
+    let last = c.tried-answer.result.1 in
+    first_played (λ i v. (goal.System-dyn g (i, v)).meaning v) (to_try n.0 n.1 n.2) held setup (after setup (own_turns setup 0 setup.turns))
+    (trial_outcome n.0 n.1 n.2 setup) c.tried-answer.result.0 c.take_first-rig.result last
+    c.take_first-rig.new.rigs.items c.args.self.now.rigs c.put_first.new.rigs c.requires.eight c.take_first-rig.ensures.items c.put_first.ensures.items
+    (c.put_first.ensures.room ∙ c.take_first-rig.ensures.room) refl
+    c.tried-answer.ensures.made tt c.tried-answer.ensures.played
+    (stands_read held (λ files. trial_match n.0 n.1 n.2) setup c.tried-answer.result.0
+    (λ (files : List File) (setup : Setup). AreFed setup (after setup (own_turns setup 0 setup.turns))
+    (systems_by last (λ i v. (goal.System-dyn g (i, v)).meaning v)))
+    (whatever_held held _ c.in_ok-setup.ensures.tells) (whatever_held held _ c.tried-answer.ensures.played.fed))
