@@ -2,6 +2,7 @@
 
 mod bytes;
 mod files;
+mod held;
 mod messages;
 mod numbers;
 mod records;

@@ -8,6 +8,7 @@ mod handlers;
 mod lending;
 mod plain;
 mod refusing;
+mod runs;
 mod sharing;
 mod sights;
 mod steady;

@@ -1,7 +1,7 @@
 //! What changes of a board cost: 4,096 rows with obstructions are created and removed in one turn, over four real systems.
 
 ghost use Rattle.{sim_base.specs.Limits.IsSetup, sim_board.specs.BoardWords.IsWhole, sim_board.specs.BoardWords.setup_in, sim_board.specs.BoardWords.systems};
-ghost use Rattle.{sim_system.specs.Meanings.HaveKinds, std.specs.Prelude.OnOk};
+ghost use Rattle.{sim_system.specs.Meanings.HaveKinds, sim_system.specs.RigWords.systems_of, std.specs.Prelude.OnOk};
 
 use sim_base::{Change, Fixed, OutOfMemory, Point};
 use sim_board::Board;
@@ -24,26 +24,21 @@ const ROWS: u32 = 4096;
 /// Prints what the creations and the removals take. The boxes are made in this body, since a function may hand out none.
 pub fn measure(rt: &HostRuntime) -> io::Result<()> {
     let alloc = rt.alloc();
-    let Ok(setup) = setup_of(alloc, HUTS.as_bytes()) else {
+    let ground: Box<dyn System> = Box::new(alloc, Ground::new(alloc))?;
+    let range: Box<dyn System> = Box::new(alloc, Range::looking(alloc))?;
+    let watch: Box<dyn System> = Box::new(alloc, Watch::new(alloc))?;
+    let census: Box<dyn System> = Box::new(alloc, Census::new(alloc))?;
+    measure_on(rt, HUTS, Rig::new(ground, range, watch, census))
+}
+
+// Prints it of a match with these systems. A proof knows nothing of the text, with which it would else reckon letter by letter.
+fn measure_on(rt: &HostRuntime, file: &str, rig: Rig) -> io::Result<()>
+    requires { HaveKinds (systems_of rig ⟦<dyn System as System>⟧) }
+{
+    let Ok(setup) = setup_of(rt.alloc(), file.as_bytes()) else {
         return Ok(());
     };
-    let ground: Box<dyn System> = match Box::new(alloc, Ground::new(alloc)) {
-        Ok(system) => system,
-        Err(_) => return Ok(()),
-    };
-    let range: Box<dyn System> = match Box::new(alloc, Range::looking(alloc)) {
-        Ok(system) => system,
-        Err(_) => return Ok(()),
-    };
-    let watch: Box<dyn System> = match Box::new(alloc, Watch::new(alloc)) {
-        Ok(system) => system,
-        Err(_) => return Ok(()),
-    };
-    let census: Box<dyn System> = match Box::new(alloc, Census::new(alloc)) {
-        Ok(system) => system,
-        Err(_) => return Ok(()),
-    };
-    let mut board = Board::new(alloc, &setup, Rig::new(ground, range, watch, census));
+    let mut board = Board::new(rt.alloc(), &setup, rig);
     time_all(rt, &mut board)
 }
 

@@ -20,7 +20,7 @@ const BEHIND: u32 = 2_000;
 const VERSION_AT: usize = 4;
 
 /// What a state is answered with.
-#[derive(Clone, Copy, Debug, PartialEq, Eq)]
+#[derive(Clone, Copy)]
 enum Answer {
     Loaded,
     NotState,
@@ -31,7 +31,7 @@ enum Answer {
 }
 
 /// How many changes had each answer.
-#[derive(Clone, Copy, Debug, Default)]
+#[derive(Clone, Copy, Default)]
 struct Tally {
     loaded: u64,
     not_state: u64,

@@ -21,7 +21,7 @@ const JOINING: u32 = 125;
 const STATE: usize = 1_700_000;
 
 /// What arrives from a client; None is the end of its connection.
-#[derive(Debug, Drop)]
+#[derive(Drop)]
 struct Arrival {
     from: u8,
     said: Option<Up>,

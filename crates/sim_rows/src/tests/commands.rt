@@ -17,7 +17,7 @@ const BEFORE: &[u8] = b"before";
 pub type Command = (&'static [&'static str], u64, &'static str);
 
 /// Each file that is read takes three calls: it is opened, it is read whole, and it has come to its end.
-pub const COMMANDS: [Command; 7] = [
+pub static COMMANDS: [Command; 7] = [
     (&["play", "m"], 3, ""),
     (&["state", "m", "1", "s"], 3, "s"),
     (&["state", "m", "1", "new"], 3, "new"),

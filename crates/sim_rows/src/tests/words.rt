@@ -1,9 +1,11 @@
 //! What each command prints, and how it ends.
 
+use sim_base::OutOfMemory;
 use sim_top::Status;
+use std::alloc::Global;
 use std::test::Fail;
 use test_runs::games::{POSTS, STEP};
-use test_runs::{Case, first_unmet, print, shelf_of};
+use test_runs::{Case, Printed, first_unmet, print, shelf_of};
 
 const POSTS_LINES: &str = "turn 0 17328fba69143d17c79259ab7d40e803
 turn 1 8fe2300087879a3c47e3af011e612274
@@ -76,7 +78,7 @@ turn 1 0d9544bb4e1d49dc65f86d786d5fd433
 stock 1 11 9
 ";
 
-const CASES: [Case; 11] = [
+static CASES: [Case; 11] = [
     (&["play", "m"], &[("m", POSTS)], Status::Done, POSTS_LINES),
     (
         &["rejoin", "m", "1"],
@@ -132,8 +134,11 @@ fn each_command_gives_its_status_and_text(rt: HostRuntime) -> Result<(), Fail> {
     Ok(())
 }
 
+/// Words, how the run ends, and what it prints.
+type Step = (&'static [&'static str], Status, &'static str);
+
 // Commands over the state that the first of them stores, and what they print.
-static STORED: [(&[&str], Status, &str); 8] = [
+static STORED: [Step; 8] = [
     (
         &["state", "m", "000000001", "s"],
         Status::Done,
@@ -172,19 +177,36 @@ static STORED: [(&[&str], Status, &str); 8] = [
     ),
 ];
 
+// The place of the first step that ends or prints otherwise, with what it prints. Each goes over what those before it have stored.
+fn first_otherwise(
+    alloc: Global,
+    files: &[(&str, &[u8])],
+    steps: &[Step],
+) -> Result<Option<(usize, Printed)>, OutOfMemory> {
+    let mut shelf = shelf_of(alloc, files)?;
+    for (place, (words, status, text)) in steps.iter().enumerate() {
+        let printed = print(alloc, words, &mut shelf)?;
+        if !is_printed(&printed, *status, text) {
+            return Ok(Some((place, printed)));
+        }
+    }
+    Ok(None)
+}
+
+fn is_printed(printed: &Printed, status: Status, text: &str) -> bool {
+    printed.status == status && printed.text.as_str() == text
+}
+
 #[test]
 fn a_state_is_stored_shown_and_played_on(rt: HostRuntime) -> Result<(), Fail> {
-    let mut shelf = shelf_of(rt.alloc(), &[("m", STEP.as_bytes())])?;
-    for (words, status, text) in STORED {
-        let printed = print(rt.alloc(), words, &mut shelf)?;
-        assert_eq!(rt; printed.status, status, "for {words:?}");
-        assert_eq!(rt; printed.text.as_str(), text, "for {words:?}");
-    }
+    let files: &[(&str, &[u8])] = &[("m", STEP.as_bytes())];
+    let unmet = first_otherwise(rt.alloc(), files, &STORED)?;
+    assert!(rt; unmet.is_none(), "{unmet:?}");
     Ok(())
 }
 
 // Commands over the logs that the others store, and what they print.
-static LOGGED: [(&[&str], Status, &str); 6] = [
+static LOGGED: [Step; 6] = [
     (&["log", "m", "o"], Status::Done, "log 2 212\n"),
     (&["check", "m", "o"], Status::Done, "agree 2\n"),
     (&["check", "m", "m"], Status::LogRefused, "log refused 1\n"),
@@ -195,40 +217,45 @@ static LOGGED: [(&[&str], Status, &str); 6] = [
 
 #[test]
 fn a_log_is_stored_and_checked(rt: HostRuntime) -> Result<(), Fail> {
-    let files = [
+    let files: &[(&str, &[u8])] = &[
         ("m", STEP.as_bytes()),
         ("t", TWO.as_bytes()),
         ("l", STEPS.as_bytes()),
     ];
-    let mut shelf = shelf_of(rt.alloc(), &files)?;
-    for (words, status, text) in LOGGED {
-        let printed = print(rt.alloc(), words, &mut shelf)?;
-        assert_eq!(rt; printed.status, status, "for {words:?}");
-        assert_eq!(rt; printed.text.as_str(), text, "for {words:?}");
-    }
+    let unmet = first_otherwise(rt.alloc(), files, &LOGGED)?;
+    assert!(rt; unmet.is_none(), "{unmet:?}");
     Ok(())
+}
+
+static NUMBERS: [(Status, u8); 15] = [
+    (Status::Done, 0),
+    (Status::Differs, 1),
+    (Status::Usage, 2),
+    (Status::ReadFault, 3),
+    (Status::WriteFault, 4),
+    (Status::TooLong, 5),
+    (Status::MatchRefused, 6),
+    (Status::StateRefused, 7),
+    (Status::ListRefused, 8),
+    (Status::OutOfMemory, 9),
+    (Status::NoSuchTurn, 10),
+    (Status::NoFile, 11),
+    (Status::SightRefused, 12),
+    (Status::LogRefused, 13),
+    (Status::EconomyRefused, 14),
+];
+
+// The first of these statuses that has another number.
+fn first_numbered_otherwise(numbers: &[(Status, u8)]) -> Option<usize> {
+    for (place, (status, number)) in numbers.iter().enumerate() {
+        if status.number() != *number {
+            return Some(place);
+        }
+    }
+    None
 }
 
 #[test]
 fn statuses_have_their_numbers(rt: HostRuntime) {
-    let numbers = [
-        (Status::Done, 0),
-        (Status::Differs, 1),
-        (Status::Usage, 2),
-        (Status::ReadFault, 3),
-        (Status::WriteFault, 4),
-        (Status::TooLong, 5),
-        (Status::MatchRefused, 6),
-        (Status::StateRefused, 7),
-        (Status::ListRefused, 8),
-        (Status::OutOfMemory, 9),
-        (Status::NoSuchTurn, 10),
-        (Status::NoFile, 11),
-        (Status::SightRefused, 12),
-        (Status::LogRefused, 13),
-        (Status::EconomyRefused, 14),
-    ];
-    for (status, number) in numbers {
-        assert_eq!(rt; status.number(), number);
-    }
+    assert_eq!(rt; first_numbered_otherwise(&NUMBERS), None);
 }

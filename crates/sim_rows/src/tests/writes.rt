@@ -2,9 +2,11 @@
 
 ghost use Rattle.{sim_store.specs.MemSink.faults_of, std.specs.Prelude.None};
 
-use crate::tests::commands::{COMMANDS, are_inputs_kept, files, is_saved, run_over, stored};
+use crate::tests::commands::{
+    COMMANDS, Command, are_inputs_kept, files, is_saved, run_over, stored,
+};
 use sim_base::OutOfMemory;
-use sim_store::{Failed, MemSink, Sink};
+use sim_store::{Failed, MemShelf, MemSink, Sink};
 use sim_top::Status;
 use std::alloc::Global;
 use std::test::Fail;
@@ -26,23 +28,25 @@ fn with_failing(
     Ok((status, text.starts_with(out.told()), is_kept))
 }
 
+// Whether each write that fails ends the command with its fault.
+fn is_met(alloc: Global, command: &Command, state: &[u8]) -> Result<bool, OutOfMemory> {
+    let (words, _, saves) = command;
+    let mut healthy = files(alloc, state, 0)?;
+    let (done, whole) = run_over(alloc, words, &mut healthy, 0)?;
+    let mut met = done == Status::Done && 0 < whole.calls();
+    for write in 1..=whole.calls() {
+        let outcome = with_failing(alloc, words, saves, state, write, whole.told())?;
+        met = met && outcome == (Status::WriteFault, true, true);
+    }
+    Ok(met)
+}
+
 #[test]
 fn every_write_of_the_sink_may_fail(rt: HostRuntime) -> Result<(), Fail> {
     let alloc = rt.alloc();
     let state = stored(alloc)?;
-    for (words, _, saves) in COMMANDS {
-        let mut healthy = files(alloc, &state, 0)?;
-        let (done, whole) = run_over(alloc, words, &mut healthy, 0)?;
-        assert_eq!(rt; done, Status::Done, "for {words:?}");
-        assert!(rt; 0 < whole.calls(), "for {words:?}");
-        for write in 1..=whole.calls() {
-            let outcome = with_failing(alloc, words, saves, &state, write, whole.told())?;
-            assert_eq!(rt;
-                outcome,
-                (Status::WriteFault, true, true),
-                "for {words:?} at write {write}"
-            );
-        }
+    for command in &COMMANDS {
+        assert!(rt; is_met(alloc, command, &state)?, "for {command:?}");
     }
     Ok(())
 }
@@ -72,17 +76,36 @@ turn 1 a04b5eab7964089994f7c0397fb83f96
 turn 2 ecaa1e1ccacbb4004f81e22fb1d95364
 ";
 
+// How a run ends of which this write fails, with so much room, and what was told until then.
+fn cut_short(
+    alloc: Global,
+    shelf: &mut MemShelf,
+    room: usize,
+    write: u64,
+) -> Result<(Status, MemSink), OutOfMemory> {
+    let mut out = SlowSink {
+        sink: MemSink::new(alloc, room)?,
+    };
+    out.sink.fail_at(write)?;
+    let ended = run_words(alloc, &["play", "m"], shelf, &mut out)?;
+    Ok((ended, out.sink))
+}
+
+// The first byte of the lines at which the text of a match is not cut short as it has to be.
+fn first_otherwise(alloc: Global, file: &str, lines: &[u8]) -> Result<Option<usize>, OutOfMemory> {
+    let mut shelf = shelf_of(alloc, &[("m", file.as_bytes())])?;
+    for told in (0..lines.len()).step_by(2) {
+        let (ended, sink) = cut_short(alloc, &mut shelf, lines.len(), told as u64 / 2 + 1)?;
+        if ended != Status::WriteFault || Some(sink.told()) != lines.get(..told) {
+            return Ok(Some(told));
+        }
+    }
+    Ok(None)
+}
+
 #[test]
 fn a_text_is_cut_short_where_its_sink_fails(rt: HostRuntime) -> Result<(), Fail> {
-    let mut shelf = shelf_of(rt.alloc(), &[("m", EMPTY.as_bytes())])?;
-    for told in (0..EMPTY_LINES.len()).step_by(2) {
-        let mut out = SlowSink {
-            sink: MemSink::new(rt.alloc(), EMPTY_LINES.len())?,
-        };
-        out.sink.fail_at(told as u64 / 2 + 1)?;
-        let ended = run_words(rt.alloc(), &["play", "m"], &mut shelf, &mut out)?;
-        assert_eq!(rt; ended, Status::WriteFault, "after {told}");
-        assert_eq!(rt; Some(out.sink.told()), EMPTY_LINES.as_bytes().get(..told));
-    }
+    let found = first_otherwise(rt.alloc(), EMPTY, EMPTY_LINES.as_bytes())?;
+    assert_eq!(rt; found, None);
     Ok(())
 }

@@ -1,10 +1,10 @@
 //! Worked rows, each over a board that is started from a match file.
 
-ghost use Rattle.{sim_base.specs.Limits.IsSetup, sim_base.specs.Validity.IsValid, sim_system.specs.Meanings.HaveKinds};
-ghost use Rattle.sim_board.specs.BoardWords.{IsWhole, setup_in, systems};
+ghost use Rattle.{sim_base.specs.Limits.IsSetup, sim_base.specs.Validity.IsValid, sim_system.specs.Meanings.HaveKinds, sim_system.specs.RigWords.systems_of};
+ghost use Rattle.{sim_board.specs.BoardWords.IsWhole, sim_board.specs.BoardWords.setup_in, sim_board.specs.BoardWords.systems, std.specs.Prelude.IfOk};
 
 use crate::tests::checks::{answer, can_leave, change};
-use sim_base::{Cell, Change, Fixed, Items, OutOfMemory, Point, State};
+use sim_base::{Cell, Change, Fixed, Items, OutOfMemory, Point, Setup, State};
 use sim_board::{Board, adopt_and_apply, start_and_apply};
 use sim_census::Census;
 use sim_codec::is_valid;
@@ -117,52 +117,108 @@ fn turned(board: &mut Board<'_>) -> Result<[(usize, u32); 2], OutOfMemory>
     Ok([first, enemies(board)?])
 }
 
+// The setup of a match file.
+fn read_setup(alloc: Global, file: &str) -> Result<Setup, Fail>
+    ensures { IfOk result IsSetup }
+{
+    Ok(setup_of(alloc, file.as_bytes())?)
+}
+
+// What is open before and after huts leave, how many rows are left, and how often the ground was built anew.
+fn opened_on(alloc: Global, rig: Rig) -> Result<([bool; 3], usize, u64), Fail>
+    requires { HaveKinds (systems_of rig ⟦<dyn System as System>⟧) }
+{
+    let setup = read_setup(alloc, HUTS)?;
+    let mut board = Board::new(alloc, &setup, rig);
+    let open = opened(&mut board)?;
+    let (state, rig) = board.finish();
+    Ok((open, state.rows.as_slice().len(), rig.ground.rebuilds()))
+}
+
+fn turned_on(alloc: Global, rig: Rig) -> Result<[(usize, u32); 2], Fail>
+    requires { HaveKinds (systems_of rig ⟦<dyn System as System>⟧) }
+{
+    let setup = read_setup(alloc, POSTS)?;
+    let mut board = Board::new(alloc, &setup, rig);
+    Ok(turned(&mut board)?)
+}
+
+// How many rows are left behind a start without the first hut, and behind the adoption of that state without the second, and how often the
+// ground was built anew; or nothing, where a list of changes is not made or the state between them is not valid.
+fn changed_on(alloc: Global, rig: Rig) -> Result<Option<(usize, usize, u64)>, Fail>
+    requires { HaveKinds (systems_of rig ⟦<dyn System as System>⟧) }
+{
+    let setup = read_setup(alloc, HUTS)?;
+    let mut board = Board::new(alloc, &setup, rig);
+    let is_made = start_without(&mut board, alloc, 2)?;
+    let (state, rig) = board.finish();
+    let first = state.rows.as_slice().len();
+    if !is_made || !is_valid(&setup, &state) {
+        return Ok(None);
+    }
+    adopted_on(alloc, &setup, state, rig, first)
+}
+
+fn adopted_on(
+    alloc: Global,
+    setup: &Setup,
+    state: State,
+    rig: Rig,
+    first: usize,
+) -> Result<Option<(usize, usize, u64)>, Fail>
+    requires limits { IsSetup setup.now }
+    requires valid { IsValid setup.now state }
+    requires kinds { HaveKinds (systems_of rig ⟦<dyn System as System>⟧) }
+{
+    let mut board = Board::new(alloc, setup, rig);
+    let is_made = adopt_without(&mut board, alloc, state, 3)?;
+    let (state, rig) = board.finish();
+    let rows = state.rows.as_slice().len();
+    Ok(is_made.then_some((first, rows, rig.ground.rebuilds())))
+}
+
+/// What is tried on a board.
+#[derive(Clone, Copy)]
+enum Tried {
+    Covers,
+    Sides,
+    Changes,
+}
+
+// Whether a board with these systems does what it has to.
+fn holds_on(alloc: Global, rig: Rig, tried: Tried) -> Result<bool, Fail>
+    requires { HaveKinds (systems_of rig ⟦<dyn System as System>⟧) }
+{
+    Ok(match tried {
+        Tried::Covers => opened_on(alloc, rig)? == ([false, false, true], 0, 1),
+        Tried::Sides => turned_on(alloc, rig)? == [(1, 3), (0, 0)],
+        Tried::Changes => changed_on(alloc, rig)? == Some((1, 0, 3)),
+    })
+}
+
+// Whether a board does, with the systems of the game. They are made in this one body, since a function may hand out no boxes.
+fn holds(alloc: Global, tried: Tried) -> Result<bool, Fail> {
+    let rig = rig!(alloc);
+    holds_on(alloc, rig, tried)
+}
+
 // A cell that two huts cover opens when the second leaves.
 #[test]
 fn two_covers_of_one_cell(rt: HostRuntime) -> Result<(), Fail> {
-    let alloc = rt.alloc();
-    let rig = rig!(alloc);
-    let Ok(setup) = setup_of(alloc, HUTS.as_bytes()) else {
-        panic!(rt; "no setup")
-    };
-    let mut board = Board::new(alloc, &setup, rig);
-    assert_eq!(rt; opened(&mut board)?, [false, false, true]);
-    let (state, rig) = board.finish();
-    assert_eq!(rt; state.rows.as_slice().len(), 0);
-    assert_eq!(rt; rig.ground.rebuilds(), 1);
+    assert!(rt; holds(rt.alloc(), Tried::Covers)?);
     Ok(())
 }
 
 // Who changes sides is no enemy within reach.
 #[test]
 fn within_after_a_change_of_owner(rt: HostRuntime) -> Result<(), Fail> {
-    let alloc = rt.alloc();
-    let rig = rig!(alloc);
-    let Ok(setup) = setup_of(alloc, POSTS.as_bytes()) else {
-        panic!(rt; "no setup")
-    };
-    let mut board = Board::new(alloc, &setup, rig);
-    assert_eq!(rt; turned(&mut board)?, [(1, 3), (0, 0)]);
+    assert!(rt; holds(rt.alloc(), Tried::Sides)?);
     Ok(())
 }
 
 // A list of changes is made behind a start, and behind the adoption of a state.
 #[test]
 fn changes_behind_a_start_and_an_adoption(rt: HostRuntime) -> Result<(), Fail> {
-    let alloc = rt.alloc();
-    let rig = rig!(alloc);
-    let Ok(setup) = setup_of(alloc, HUTS.as_bytes()) else {
-        panic!(rt; "no setup")
-    };
-    let mut board = Board::new(alloc, &setup, rig);
-    assert!(rt; start_without(&mut board, alloc, 2)?);
-    let (state, rig) = board.finish();
-    assert_eq!(rt; state.rows.as_slice().len(), 1);
-    assert!(rt; is_valid(&setup, &state));
-    let mut board = Board::new(alloc, &setup, rig);
-    assert!(rt; adopt_without(&mut board, alloc, state, 3)?);
-    let (state, rig) = board.finish();
-    assert_eq!(rt; state.rows.as_slice().len(), 0);
-    assert_eq!(rt; rig.ground.rebuilds(), 3);
+    assert!(rt; holds(rt.alloc(), Tried::Changes)?);
     Ok(())
 }

@@ -7,6 +7,7 @@ ghost use Rattle.std.specs.Prelude.{◌≡◌, [], ◌∷◌, length, IfOk, if�
 ghost use Rattle.sim_stock.specs.Deeds.{deed as deed_of, IsAsked};
 ghost use Rattle.sim_system.specs.{Meanings.HaveKinds, RigWords.systems_of};
 
+use crate::tests::runs::{ended, play, printed};
 use sim_base::{Change, Changes, Command, Items, OutOfMemory, Row, Setup, State};
 use sim_census::Census;
 use sim_ground::Ground;
@@ -20,7 +21,7 @@ use sim_watch::Watch;
 use std::alloc::Global;
 use std::test::Fail;
 use test_runs::games::HUTS_LEFT;
-use test_runs::{Printed, add_rig, planned, print, rig, shelf_of, words_of};
+use test_runs::{Printed, add_rig, planned, rig, shelf_of, words_of};
 
 // The digests of that match, whose player resigns in turn 1.
 const LINES: &str =
@@ -144,15 +145,18 @@ fn run_here(
     Ok(ended.status)
 }
 
-// Plays a match with these handlers.
-fn played(alloc: Global, file: &str) -> Result<Printed, OutOfMemory> {
-    let mut rigs = Vec::with_capacity(alloc, 8)?;
-    for _ in 0..8u8 {
-        add_rig(&mut rigs, rig!(alloc))?;
-    }
-    let words = words_of(alloc, &["play", "m"])?;
-    let mut shelf = shelf_of(alloc, &[("m", file.as_bytes())])?;
-    let mut out = MemSink::new(alloc, 100)?;
+// The same, with the usual handlers of deeds.
+fn run_with_deeds(
+    alloc: Global,
+    words: &[String],
+    shelf: &mut MemShelf,
+    out: &mut MemSink,
+    rigs: Vec<Rig>,
+) -> Result<Status, OutOfMemory>
+    requires eight { length rigs.items ≡ 8 }
+    requires kinds { All (λ r. HaveKinds (systems_of r ⟦<dyn System as System>⟧)) rigs.items }
+    requires cleared { All (λ r. AreCleared (systems_of r ⟦<dyn System as System>⟧)) rigs.items }
+{
     let tributes: DeedFunction = Box::new(alloc, tributed)?;
     let barters: DeedFunction = Box::new(alloc, bartered)?;
     let deeds = DeedTable::new(vec![in alloc;
@@ -165,31 +169,57 @@ fn played(alloc: Global, file: &str) -> Result<Printed, OutOfMemory> {
             run: barters
         },
     ]?);
-    let status = run_here(alloc, &words, &mut shelf, &mut out, rigs, &deeds)?;
-    let text = String::from_utf8_lossy(alloc, out.told())?;
-    Ok(Printed { status, text })
+    run_here(alloc, words, shelf, out, rigs, &deeds)
+}
+
+// Plays a match on these rigs.
+fn played_on(alloc: Global, file: &str, rigs: Vec<Rig>) -> Result<Printed, OutOfMemory>
+    requires eight { length rigs.items ≡ 8 }
+    requires kinds { All (λ r. HaveKinds (systems_of r ⟦<dyn System as System>⟧)) rigs.items }
+    requires cleared { All (λ r. AreCleared (systems_of r ⟦<dyn System as System>⟧)) rigs.items }
+{
+    let words = words_of(alloc, &["play", "m"])?;
+    let mut shelf = shelf_of(alloc, &[("m", file.as_bytes())])?;
+    let mut out = MemSink::new(alloc, 100)?;
+    let status = run_with_deeds(alloc, &words, &mut shelf, &mut out, rigs)?;
+    printed(alloc, status, &out)
+}
+
+// Plays a match with these handlers.
+fn played(alloc: Global, file: &str) -> Result<Printed, OutOfMemory> {
+    let mut rigs = Vec::with_capacity(alloc, 8)?;
+    for _ in 0..8u8 {
+        add_rig(&mut rigs, rig!(alloc))?;
+    }
+    played_on(alloc, file, rigs)
+}
+
+// Whether the match comes to these states, with these handlers and with the usual ones.
+fn are_both(alloc: Global, file: &str, lines: &str) -> Result<bool, OutOfMemory> {
+    let here = played(alloc, file)?;
+    let usual = play(alloc, file)?;
+    Ok(ended(&here, Status::Done, lines) && ended(&usual, Status::Done, lines))
 }
 
 #[test]
 fn another_handler_gives_the_same_states(rt: HostRuntime) -> Result<(), Fail> {
-    let alloc = rt.alloc();
-    let printed = played(alloc, HUTS_LEFT)?;
-    assert_eq!(rt; printed.status, Status::Done);
-    assert_eq!(rt; printed.text.as_str(), LINES);
-    let mut shelf = shelf_of(alloc, &[("m", HUTS_LEFT.as_bytes())])?;
-    let usual = print(alloc, &["play", "m"], &mut shelf)?;
-    assert_eq!(rt; usual.text.as_str(), LINES);
+    assert!(rt; are_both(rt.alloc(), HUTS_LEFT, LINES)?);
     Ok(())
+}
+
+// How the match ends with these handlers, where nothing is printed, and how with the usual ones.
+fn ends(alloc: Global, file: &str) -> Result<Option<(u8, Status)>, OutOfMemory> {
+    let here = played(alloc, file)?;
+    let usual = play(alloc, file)?;
+    Ok(if here.text.as_str().is_empty() {
+        Some((here.status.number(), usual.status))
+    } else {
+        None
+    })
 }
 
 #[test]
 fn a_handler_that_gives_up_ends_the_run(rt: HostRuntime) -> Result<(), Fail> {
-    let alloc = rt.alloc();
-    let printed = played(alloc, SECOND_RESIGNS)?;
-    assert_eq!(rt; printed.status.number(), 9);
-    assert_eq!(rt; printed.text.as_str(), "");
-    let mut shelf = shelf_of(alloc, &[("m", SECOND_RESIGNS.as_bytes())])?;
-    let usual = print(alloc, &["play", "m"], &mut shelf)?;
-    assert_eq!(rt; usual.status, Status::Done);
+    assert_eq!(rt; ends(rt.alloc(), SECOND_RESIGNS)?, Some((9, Status::Done)));
     Ok(())
 }

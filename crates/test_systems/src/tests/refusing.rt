@@ -1,8 +1,9 @@
 //! Systems that find no memory for one sort of note or ask. A run that keeps its systems beside what it plays, and does not
 //! tell or ask them, would not notice.
 
-ghost use Rattle.std.specs.Prelude.{◌≡◌, IsTrue};
-ghost use Rattle.sim_system.specs.Meanings.{NeedsNoMemory};
+ghost use Rattle.{sim_client.specs.StageWords.AreCleared, sim_system.specs.Meanings.HaveKinds, sim_system.specs.Meanings.NeedsNoMemory};
+ghost use Rattle.std.specs.Prelude.{◌≡◌, IsTrue, length, All};
+ghost use Rattle.sim_system.specs.RigWords.{systems_of};
 
 use sim_base::{Land, OutOfMemory};
 use sim_census::Census;
@@ -18,7 +19,7 @@ use test_runs::games::{GUARDS, HUTS_LEFT, STEP, TRAINING};
 use test_runs::{add_rig, rig_of, run_with, words_of};
 
 /// A sort of note or ask.
-#[derive(Clone, Copy, Debug, PartialEq, Eq)]
+#[derive(Clone, Copy)]
 enum Sort {
     Born,
     Moved,
@@ -120,7 +121,7 @@ type Files = &'static [(&'static str, &'static str)];
 fn run_refused(
     alloc: Global,
     words: &[&str],
-    files: Files,
+    files: &[(&str, &str)],
     refusal: Refusal,
 ) -> Result<(Status, bool), OutOfMemory> {
     let mut rigs = Vec::with_capacity(alloc, 8)?;
@@ -135,14 +136,37 @@ fn run_refused(
         );
         add_rig(&mut rigs, rig)?;
     }
+    run_on(alloc, words, files, rigs)
+}
+
+// Runs the words on these rigs.
+fn run_on(
+    alloc: Global,
+    words: &[&str],
+    files: &[(&str, &str)],
+    rigs: Vec<Rig>,
+) -> Result<(Status, bool), OutOfMemory>
+    requires eight { length rigs.items ≡ 8 }
+    requires kinds { All (λ r. HaveKinds (systems_of r ⟦<dyn System as System>⟧)) rigs.items }
+    requires cleared { All (λ r. AreCleared (systems_of r ⟦<dyn System as System>⟧)) rigs.items }
+{
     let words = words_of(alloc, words)?;
+    let mut shelf = shelf_with(alloc, files)?;
+    let mut out = MemSink::new(alloc, 1000)?;
+    let status = run_with(alloc, &words, &mut shelf, &mut out, rigs)?;
+    Ok((status, is_told(&out, &shelf, "s")))
+}
+
+fn shelf_with(alloc: Global, files: &[(&str, &str)]) -> Result<MemShelf, OutOfMemory> {
     let mut shelf = MemShelf::new(alloc, 1000)?;
     for (name, file) in files {
         shelf.put(name, file.as_bytes())?;
     }
-    let mut out = MemSink::new(alloc, 1000)?;
-    let status = run_with(alloc, &words, &mut shelf, &mut out, rigs)?;
-    Ok((status, !out.told().is_empty() || shelf.held("s").is_some()))
+    Ok(shelf)
+}
+
+fn is_told(out: &MemSink, shelf: &MemShelf, name: &str) -> bool {
+    !out.told().is_empty() || shelf.held(name).is_some()
 }
 
 /// Words, the files, what is refused, and how the run ends.
@@ -161,7 +185,7 @@ const FIRST_PLAYS: &str = r#"{"clients":2,"steps":[["play",1]]}"#;
 const BOTH_PLAY: &str = r#"{"clients":2,"steps":[["play",1],["play",2]]}"#;
 
 // What each system is told or asked, and a match in which that happens; and what no run has to do with.
-const CASES: [Case; 15] = [
+static CASES: [Case; 15] = [
     (
         STATE,
         &[("m", STEP)],
@@ -254,16 +278,25 @@ const CASES: [Case; 15] = [
     ),
 ];
 
+// Whether the run ends as the case says, with something printed or stored just where it comes to its end.
+fn is_met(alloc: Global, case: &Case) -> Result<bool, OutOfMemory> {
+    let (words, files, refusal, status) = case;
+    let (ended, is_told) = run_refused(alloc, words, files, *refusal)?;
+    Ok(ended == *status && is_told == (ended == Status::Done))
+}
+
+// The place of the first case that is not met.
+fn first_unmet(alloc: Global, cases: &[Case]) -> Result<Option<usize>, OutOfMemory> {
+    for (place, case) in cases.iter().enumerate() {
+        if !is_met(alloc, case)? {
+            return Ok(Some(place));
+        }
+    }
+    Ok(None)
+}
+
 #[test]
 fn systems_are_told_and_asked(rt: HostRuntime) -> Result<(), Fail> {
-    for (words, files, refusal, status) in CASES {
-        let (ended, is_told) = run_refused(rt.alloc(), words, files, refusal)?;
-        assert_eq!(rt; ended, status, "{words:?} with {refusal:?}");
-        assert_eq!(rt;
-            is_told,
-            status == Status::Done,
-            "{words:?} with {refusal:?}"
-        );
-    }
+    assert_eq!(rt; first_unmet(rt.alloc(), &CASES)?, None);
     Ok(())
 }

@@ -3,18 +3,18 @@
 
 ghost use Rattle.std.specs.Prelude.{◌≡◌, IfOk};
 
+use crate::tests::runs::{ended, print_on};
 use sim_base::{Land, OutOfMemory};
 use sim_census::Census;
 use sim_ground::{Ground, Rooms};
 use sim_range::Range;
-use sim_store::MemSink;
 use sim_system::{Answer, Ask, Fact, Kind, Note, Rig, System};
 use sim_top::Status;
 use sim_watch::Watch;
 use std::alloc::Global;
 use std::rc::Rc;
 use std::test::Fail;
-use test_runs::{Printed, add_rig, rig_of, run_with, shelf_of, words_of};
+use test_runs::{Printed, add_rig, rig_of};
 
 // Walkers on a ground of walls with a gap at one end each, so that ways wind from side to side; a match up to its commands.
 const LAND: &str =
@@ -25,7 +25,7 @@ const COMMANDS: &str =
     r#"[1,1,"walk",[2,5],"38.5","34.5"],[1,2,"walk",[3],"38.5","34.5"],[1,3,"walk",[4],"1.5","1.5"],[3,1,"place",1,"37.5","6.5"],[4,1,"walk",[2],"38.5","34.5"],[4,2,"walk",[3],"37.5","6.5"],[6,1,"delete",[6]],[7,1,"walk",[2],"38.5","34.5"],[7,2,"walk",[3],"20.5","6.5"],[9,3,"place",1,"2.5","27.5"],[10,3,"walk",[4],"1.5","1.5"],[12,3,"delete",[7]],[13,3,"walk",[4],"1.5","1.5"]"#;
 
 // What is ordered in a session: in each round one of these, before each client plays a turn.
-const ORDERS: [&str; 12] = [
+static ORDERS: [&str; 12] = [
     r#"["order",1,"walk",[2,5],"38.5","34.5"],["order",2,"walk",[3],"38.5","34.5"],"#,
     r#"["order",3,"walk",[4],"1.5","1.5"],"#,
     r#"["order",1,"place",1,"37.5","6.5"],"#,
@@ -88,27 +88,52 @@ impl<S: System> System for Forgetful<S> {
     }
 }
 
+// The texts, one behind another.
+fn joined(alloc: Global, texts: &[&str]) -> Result<String, OutOfMemory> {
+    let mut all = String::new(alloc);
+    for text in texts {
+        all.push_str(text)?;
+    }
+    Ok(all)
+}
+
 // The match with these commands.
 fn match_of(alloc: Global, commands: &str) -> Result<String, OutOfMemory> {
-    let mut text = String::from_str(alloc, LAND)?;
-    text.push_str(commands)?;
-    text.push_str("]}")?;
-    Ok(text)
+    joined(alloc, &[LAND, commands, "]}"])
 }
 
 // The steps of a session: the orders, and behind them some rounds more.
 fn steps(alloc: Global) -> Result<String, OutOfMemory> {
-    let mut text = String::from_str(alloc, "{\"clients\":3,\"steps\":[")?;
-    for order in ORDERS {
-        text.push_str(order)?;
-        text.push_str(ROUND)?;
-        text.push_str(ROUND)?;
+    let orders = orders_of(alloc, &ORDERS, ROUND)?;
+    let more = rounds(alloc, ROUND, 8)?;
+    joined(
+        alloc,
+        &[
+            "{\"clients\":3,\"steps\":[",
+            orders.as_str(),
+            more.as_str(),
+            "[\"play\",1]]}",
+        ],
+    )
+}
+
+// Each order with two rounds behind it.
+fn orders_of(alloc: Global, orders: &[&str], round: &str) -> Result<String, OutOfMemory> {
+    let mut all = String::new(alloc);
+    for order in orders {
+        all.push_str(order)?;
+        all.push_str(round)?;
+        all.push_str(round)?;
     }
-    for _ in 0..8u8 {
-        text.push_str(ROUND)?;
+    Ok(all)
+}
+
+fn rounds(alloc: Global, round: &str, many: u8) -> Result<String, OutOfMemory> {
+    let mut all = String::new(alloc);
+    for _ in 0..many {
+        all.push_str(round)?;
     }
-    text.push_str("[\"play\",1]]}")?;
-    Ok(text)
+    Ok(all)
 }
 
 // Runs the words over grounds that forget, each with rooms of its own.
@@ -127,12 +152,7 @@ fn forgetting(
         );
         add_rig(&mut rigs, rig)?;
     }
-    let words = words_of(alloc, words)?;
-    let mut shelf = shelf_of(alloc, files)?;
-    let mut out = MemSink::new(alloc, 100_000)?;
-    let status = run_with(alloc, &words, &mut shelf, &mut out, rigs)?;
-    let text = String::from_utf8_lossy(alloc, out.told())?;
-    Ok(Printed { status, text })
+    print_on(alloc, words, files, rigs)
 }
 
 // Runs them over grounds that share their rooms.
@@ -146,12 +166,7 @@ fn sharing(alloc: Global, words: &[&str], files: &[(&str, &[u8])]) -> Result<Pri
         );
         add_rig(&mut rigs, rig)?;
     }
-    let words = words_of(alloc, words)?;
-    let mut shelf = shelf_of(alloc, files)?;
-    let mut out = MemSink::new(alloc, 100_000)?;
-    let status = run_with(alloc, &words, &mut shelf, &mut out, rigs)?;
-    let text = String::from_utf8_lossy(alloc, out.told())?;
-    Ok(Printed { status, text })
+    print_on(alloc, words, files, rigs)
 }
 
 // Whether both runs end well and print the same, which is this long.
@@ -163,29 +178,39 @@ fn are_alike(
 ) -> Result<bool, OutOfMemory> {
     let forgotten = forgetting(alloc, words, files)?;
     let shared = sharing(alloc, words, files)?;
-    Ok(
-        shared.status == Status::Done
-            && forgotten.status == Status::Done
-            && shared.text.as_str() == forgotten.text.as_str()
-            && shared.text.len() == long,
-    )
+    Ok(are_both(&forgotten, &shared) && shared.text.len() == long)
+}
+
+fn are_both(forgotten: &Printed, shared: &Printed) -> bool {
+    forgotten.status == Status::Done && ended(shared, Status::Done, forgotten.text.as_str())
+}
+
+// Whether that is so of a match with these commands, played and rejoined.
+fn are_states_alike(alloc: Global, commands: &str) -> Result<[bool; 2], OutOfMemory> {
+    let file = match_of(alloc, commands)?;
+    let files: &[(&str, &[u8])] = &[("m", file.as_bytes())];
+    let played = are_alike(alloc, &["play", "m"], files, 2491)?;
+    Ok([
+        played,
+        are_alike(alloc, &["rejoin", "m", "8"], files, 4829)?,
+    ])
 }
 
 #[test]
 fn shared_rooms_change_no_state(rt: HostRuntime) -> Result<(), Fail> {
-    let alloc = rt.alloc();
-    let commanded = match_of(alloc, COMMANDS)?;
-    let files: &[(&str, &[u8])] = &[("m", commanded.as_bytes())];
-    assert!(rt; are_alike(alloc, &["play", "m"], files, 2491)?);
-    assert!(rt; are_alike(alloc, &["rejoin", "m", "8"], files, 4829)?);
+    assert_eq!(rt; are_states_alike(rt.alloc(), COMMANDS)?, [true, true]);
     Ok(())
+}
+
+// Whether that is so of a session on the match with no commands.
+fn are_sessions_alike(alloc: Global) -> Result<bool, OutOfMemory> {
+    let (land, steps) = (match_of(alloc, "")?, steps(alloc)?);
+    let files: &[(&str, &[u8])] = &[("m", land.as_bytes()), ("s", steps.as_bytes())];
+    are_alike(alloc, &["session", "m", "s"], files, 5629)
 }
 
 #[test]
 fn shared_rooms_change_no_session(rt: HostRuntime) -> Result<(), Fail> {
-    let alloc = rt.alloc();
-    let (land, steps) = (match_of(alloc, "")?, steps(alloc)?);
-    let files: &[(&str, &[u8])] = &[("m", land.as_bytes()), ("s", steps.as_bytes())];
-    assert!(rt; are_alike(alloc, &["session", "m", "s"], files, 5629)?);
+    assert!(rt; are_sessions_alike(rt.alloc())?);
     Ok(())
 }

@@ -20,7 +20,7 @@ const CALLS: u32 = 16;
 const SHORT: u128 = 50_000;
 
 /// Which search is measured.
-#[derive(Clone, Copy, Debug)]
+#[derive(Clone, Copy)]
 enum Search {
     Whole,
     Labelled,

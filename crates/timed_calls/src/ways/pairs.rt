@@ -7,7 +7,7 @@ use sim_base::{Fixed, Point, next_word};
 use sim_grid::Grid;
 
 /// A generator of points in the middles of cells.
-#[derive(Clone, Copy, Debug)]
+#[derive(Clone, Copy)]
 pub struct Points {
     word: u64,
     ghost small: { word < 2 ^ 48 },
