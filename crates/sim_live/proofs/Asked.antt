@@ -4,7 +4,7 @@ use Rattle.sim_base.specs.declared.{setup.Setup.Setup, step.Step.Step as AnyStep
 use Rattle.sim_live.specs.{Live.answer_to, Live.steps_with, Shown.look_text, declared.look.Look.Look as AnyLook}
 use Rattle.sim_live.specs.declared.line.Line.{Line, TheVariants.Look, TheVariants.Other, TheVariants.Step}
 use Rattle.sim_plain_session.specs.{Printed.events, Sessions.session}
-use Rattle.{sim_session_text.specs.SessionText.lines_of, sim_talk.specs.Marks.ok_line, sim_talk.specs.Marks.refused_line}
+use Rattle.{sim_session.specs.SessionText.lines_of, sim_talk.specs.Marks.ok_line, sim_talk.specs.Marks.refused_line}
 
 -- a step, by the lines of its events and its number
 pub step_told : (setup : Setup) (clients : ℕ) (steps : List AnyStep) (x : AnyStep) (made : ℕ) (l : Line) (old one two : List ℕ) → l ≡ Step x

@@ -4,7 +4,7 @@ use Rattle.sim_base.specs.declared.{setup.Setup.Setup, step.Step.Step as AnyStep
 use Rattle.sim_live.specs.{LineWords.line_of, Shown.look_text}
 use Rattle.sim_live.specs.declared.line.Line.{Line, TheVariants.Look, TheVariants.Other, TheVariants.Step}
 use Rattle.sim_plain_session.specs.{Printed.events, Printed.start_events, Sessions.session}
-use Rattle.sim_session_text.specs.SessionText.{ending_lines, lines_of}
+use Rattle.sim_session.specs.SessionText.{ending_lines, lines_of}
 use Rattle.sim_talk.specs.{Dialogues.Converses, Marks.ok_line, Marks.refused_line, Talks.History, declared.fault.TalkFault.TalkFault}
 
 -- to a step the lines of its events, to a look what it shows, and to anything else that it is refused, with the number of the step that

@@ -1,9 +1,9 @@
 -- What is answered to a look at a session.
 use Rattle.{hex.specs.Hex.encode_lower, sim_base.specs.Spelling.spelling, sim_base.specs.declared.setup.Setup.Setup, sim_base.specs.declared.state.State.State}
-use Rattle.{sim_live.specs.declared.look.Look.Look, sim_plain_session.specs.Sessions.Session, sim_session_text.specs.Pairs.state_at}
+use Rattle.{sim_live.specs.declared.look.Look.Look, sim_plain_session.specs.Sessions.Session, sim_session.specs.Pairs.state_at}
 use Rattle.std.specs.Prelude.{ℕ, List, ◌++◌, Some, None, codes, Option}
 use Rattle.sim_report.specs.Show.{show_text}
-use Rattle.sim_session_text.specs.{Endings.end_line, Endings.end_of, Endings.of_client, Pipes.pipe_lines, SessionText.server_lines, declared.ending.End.End}
+use Rattle.sim_session.specs.{Endings.end_line, Endings.end_of, Endings.of_client, Pipes.pipe_lines, SessionText.server_lines, declared.ending.End.End}
 use Rattle.sim_live.specs.declared.look.Look.TheVariants as look
 
 -- a client that has a state, row by row; any other as it would be in the end

@@ -1,7 +1,7 @@
 //! What is answered to a line: the whole text is made before any of it is told.
 
 ghost use Rattle.{sim_base.specs.declared.step.Step.Step as AnyStep, sim_session.specs.Standing.StandsFor, sim_session.specs.Standing.StandsForSome};
-ghost use Rattle.{sim_lists.specs.StepLists.IsStep, sim_session_text.specs.SessionText.lines_of};
+ghost use Rattle.{sim_lists.specs.StepLists.IsStep, sim_session.specs.SessionText.lines_of};
 ghost use Rattle.std.specs.Prelude.{◌≡◌, ℕ, ◌+◌, ◌^◌, ◌<◌, ◌≤◌, List, [], ◌∷◌, ◌++◌, length, IfOk, OnOk, string_bytes};
 ghost use Rattle.sim_live.specs.{LineWords.IsLine, Live.answer as answer_of, Live.answer_to, Live.next, Live.steps_with};
 ghost use Rattle.sim_plain_session.specs.{Printed.events as events_in, Sessions.session as session_over};
@@ -11,7 +11,7 @@ use crate::line::{Line, line_of};
 use crate::looking::push_look;
 use sim_base::{OutOfMemory, Step};
 use sim_session::Session;
-use sim_session_text::push_events;
+use sim_session::push_events;
 use sim_system::System;
 use sim_talk::{push_ok, push_refused};
 use std::alloc::Global;

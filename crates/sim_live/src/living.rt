@@ -12,7 +12,7 @@ use crate::answering::answer;
 use sim_base::{OutOfMemory, Setup};
 use sim_orders::OrderTable;
 use sim_session::Session;
-use sim_session_text::{push_ending, push_starts};
+use sim_session::{push_ending, push_starts};
 use sim_system::{Rig, System};
 use sim_talk::{Talk, TalkFault, settled};
 use std::alloc::Global;

@@ -1,6 +1,6 @@
 //! What is answered to a look. A client that is not on has no state, and is told as it would be in the end.
 
-ghost use Rattle.{sim_base.specs.Validity.IsValid, sim_plain_session.specs.Sessions.Session as PlainSession, sim_session_text.specs.Seen.end_seen};
+ghost use Rattle.{sim_base.specs.Validity.IsValid, sim_plain_session.specs.Sessions.Session as PlainSession, sim_session.specs.Seen.end_seen};
 ghost use Rattle.std.specs.Prelude.{◌≡◌, ◌++◌, OnOk, string_bytes};
 ghost use Rattle.sim_client.specs.ClientWords.{IsSound, life, setup_in as client_setup_in, state_of};
 ghost use Rattle.sim_live.specs.{Looks.IsLook, Shown.bytes_line, Shown.look_text, Shown.shown_as, Shown.told_as};
@@ -13,7 +13,7 @@ use sim_client::Client;
 use sim_codec::spell;
 use sim_report::push_show;
 use sim_session::Session;
-use sim_session_text::{end_of, push_end, push_pipes, push_server};
+use sim_session::{end_of, push_end, push_pipes, push_server};
 use sim_system::System;
 
 /// Appends what is seen of a session. Of the text nothing is said after an error, here and below.

@@ -2,3 +2,12 @@ pub mod Building
 pub mod Printing
 pub mod Standing
 pub mod SessionWords
+pub mod Endings
+pub mod Pairs
+pub mod Pipes
+pub mod SessionText
+pub mod Laws
+pub mod Seen
+pub mod Rigs
+pub mod Starts
+pub mod Recording

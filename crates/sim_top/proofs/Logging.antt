@@ -1,5 +1,5 @@
 -- What the sink was told of a log and what is stored of it, in the words of the rules.
-use Rattle.{sim_base.specs.Spelling.digest, sim_base.specs.declared.command.PlayerCommand.PlayerCommand, sim_session_text.specs.Recording.released_turns}
+use Rattle.{sim_base.specs.Spelling.digest, sim_base.specs.declared.command.PlayerCommand.PlayerCommand, sim_session.specs.Recording.released_turns}
 use Rattle.{sim_report.specs.LogLines.apart_lines, std.specs.Prelude.slice_get}
 use Rattle.std.proofs.lemmas.{List.FromFn.get_or-map-range_with_len, List.FromFn.length-map-range_with_len, Option.slice_get-get_or}
 use Rattle.sim_replay.{proofs.Aparts.first_is, proofs.Aparts.none_apart, specs.Apart.IsFirstApart, specs.Logs.IsLog}

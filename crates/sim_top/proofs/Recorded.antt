@@ -5,8 +5,8 @@ use Rattle.std.proofs.{Common.zero, Common.◌-◌, Math.Seq.drop-nil}
 use Rattle.std.specs.{List.range_with_len, Prelude.if◌then◌else◌, Prelude.◌==◌, Prelude.slice_index_or}
 use Rattle.{sim_client.specs.StageWords.AreCleared, sim_client.specs.StageWords.nowhere, sim_session.specs.SessionWords.rigs_by}
 use Rattle.{sim_laws.specs.CommandLaws.IsOrderOf, sim_session_laws.proofs.Runs.holds_session, sim_system.specs.declared.rig.Rig.Rig}
-use Rattle.sim_session_text.{proofs.Builds.never_built, proofs.Builds.once_built, specs.Recording.released_turns}
-use Rattle.sim_session_text.specs.Rigs.{AllBuiltAtMost, AreBuiltAtMost}
+use Rattle.sim_session.{proofs.Builds.never_built, proofs.Builds.once_built, specs.Recording.released_turns}
+use Rattle.sim_session.specs.Rigs.{AllBuiltAtMost, AreBuiltAtMost}
 use Rattle.sim_system.specs.Meanings.{Meaning}
 use Rattle.sim_top.proofs.Answering.{both_causes, both_given, both_same, both_told, comes_to, list_ends_at, match_there, Opens}
 use Rattle.sim_top.proofs.Common.{◌≡◌, ℕ, suc, ◌≤◌, List, [], ◌∷◌, map, length, drop, IfSome, IfOk, OnOk, Some, Ok, Err, All, Result, refl, codes, Answer, ap}

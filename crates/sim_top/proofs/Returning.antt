@@ -3,7 +3,7 @@ use Rattle.{sim_top.specs.Hosting.builds_with_log, sim_top.specs.Hosting.IsRecor
 use Rattle.{std.proofs.Math.ListN.drop_of_length-le, std.specs.Prelude.vec_capacity}
 use Rattle.std.proofs.lemmas.List.Elements.{All-cons, All-head, All-nil, All-tail}
 use Rattle.sim_session.{proofs.Starting.built_same, specs.SessionWords.rigs_by}
-use Rattle.sim_session_text.specs.Rigs.{AllBuiltAtMost, AllStand, builds_of}
+use Rattle.sim_session.specs.Rigs.{AllBuiltAtMost, AllStand, builds_of}
 use Rattle.sim_system.specs.{Meanings.AreBuiltOnceAtMost, Meanings.Meaning, declared.rig.Rig.Rig}
 use Rattle.sim_top.proofs.Common.{IsHostedBy, IsMade, IsMadeAs, IsSettled, IsSetup, IsState, IsStepList, IsUnplayed, OfSession, Outcome, outcome_made}
 use Rattle.sim_top.proofs.Common.{RigsCameBackBy, session_match_in, session_of, Setup, StandForStored, State, Status, status_made, status_of, StepList}

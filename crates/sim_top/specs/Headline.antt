@@ -7,12 +7,12 @@ use Rattle.{sim_plain.specs.Functions.up_to, sim_plain.specs.Notices.notices, si
 use Rattle.std.specs.Prelude.{◌≡◌, ℕ, ◌<◌, ◌≤◌, ◌↔◌, List, [], ◌∷◌, ◌++◌, map, take, flat_map, Option}
 use Rattle.sim_plain_session.specs.{Clients.On, Clients.Seat, Enabled.IsOfStep, Laws.Carries, Laws.notices_in, Pasts.rules_of}
 use Rattle.sim_session_laws.specs.{Commands.UnbentAgree, Standing.NoStateIsRefused}
-use Rattle.sim_session_text.specs.{Endings.end_of, Laws.IsStepAt, Laws.PlayIsTold, Laws.ShowsPast, Laws.StandsAt}
-use Rattle.sim_session_text.specs.{Pairs.clients_apart, SessionText.ending_lines, SessionText.events_of, SessionText.session_at, SessionText.step_events}
+use Rattle.sim_session.specs.{Endings.end_of, Laws.IsStepAt, Laws.PlayIsTold, Laws.ShowsPast, Laws.StandsAt}
+use Rattle.sim_session.specs.{Pairs.clients_apart, SessionText.ending_lines, SessionText.events_of, SessionText.session_at, SessionText.step_events}
 use Rattle.sim_top.specs.Common.{after, Appends, digest, session_of, Setup, StepList}
 use Rattle.sim_base.specs.declared.step.Event.TheVariants as event
 use Rattle.sim_base.specs.declared.step.Step.TheVariants as step
-use Rattle.sim_session_text.specs.declared.ending.End.TheVariants as end
+use Rattle.sim_session.specs.declared.ending.End.TheVariants as end
 
 -- what the sink has been told, and after the session what it is told then
 pub record Headline (setup : Setup) (list : StepList) (told told' : Option (List ℕ)) : Type 0 where

@@ -15,7 +15,7 @@ use sim_base::Setup;
 use sim_lists::StepList;
 use sim_play::log_after;
 use sim_replay::Turns;
-use sim_session_text::released_turns;
+use sim_session::released_turns;
 use sim_store::Shelf;
 use sim_system::{Rig, System};
 use std::mem;

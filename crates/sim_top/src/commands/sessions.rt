@@ -10,7 +10,7 @@ use crate::inputs::read_steps;
 use crate::{Status, Stop, read_session_match};
 use sim_base::Setup;
 use sim_lists::StepList;
-use sim_session_text::session_text;
+use sim_session::session_text;
 use sim_store::Shelf;
 use sim_system::{Rig, System};
 use std::mem;

@@ -1,5 +1,5 @@
 -- The lines of just the events of the step.
-use Rattle.{sim_session.proofs.Beside.then_on, sim_session_text.specs.SessionText.lines_of, std.specs.Prelude.string_bytes}
+use Rattle.{sim_session.proofs.Beside.then_on, sim_session.specs.SessionText.lines_of, std.specs.Prelude.string_bytes}
 use Rattle.std.proofs.Common.{List, ◌++◌, ap, ◌∙◌}
 use Rattle.sim_base.specs.declared.step.Event.{Event}
 use Rattle.sim_live.proofs.answering.push_step.Goals as goal

@@ -2,7 +2,7 @@
 use Rattle.sim_client.specs.StageWords.{systems_on}
 use Rattle.sim_live.proofs.Answered.{live_caused, live_settled, live_unmade}
 use Rattle.sim_talk.proofs.Talking.{nothing_kept}
-use Rattle.sim_session_text.proofs.Coming.{all_back, same_count}
+use Rattle.sim_session.proofs.Coming.{all_back, same_count}
 use Rattle.std.proofs.Common.{Err, refl, ◌∙◌}
 use Rattle.sim_system.specs.{Meanings.HaveKinds, RigWords.systems_by}
 use Rattle.sim_talk.specs.declared.fault.TalkFault.TheVariants as ends

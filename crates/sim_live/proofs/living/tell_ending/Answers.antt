@@ -1,7 +1,7 @@
 -- What is seen of the session is what is told of the defined one.
 use Rattle.{sim_live.proofs.Answered.told_part, sim_live.proofs.Seen.ending_is, sim_plain_session.specs.Sessions.session, std.specs.Prelude.string_bytes}
 use Rattle.sim_session.specs.SessionWords.{seen_in}
-use Rattle.sim_session_text.specs.Seen.{ending_seen, IsMember, life_at}
+use Rattle.sim_session.specs.Seen.{ending_seen, IsMember, life_at}
 use Rattle.sim_talk.specs.Talks.{Extends, told}
 use Rattle.std.proofs.Common.{◌≡◌, ℕ, List, [], ◌∷◌, ◌++◌, length, Err, All, ap, rules, subst, sym, ◌∙◌}
 use Rattle.sim_talk.specs.declared.fault.TalkFault.TheVariants as ends

@@ -1,5 +1,5 @@
 -- The match and the steps were read and the session recorded, or one could not be read.
-use Rattle.sim_session_text.specs.Recording.{released_turns}
+use Rattle.sim_session.specs.Recording.{released_turns}
 use Rattle.sim_top.proofs.{Answering.match_ends, Recorded.record_ends, Recorded.record_goes_on, Recorded.record_opens}
 use Rattle.sim_top.proofs.Common.{log_after, logged_as, session_match_in, session_of, shelved, status_made, steps_in, Stop, subst, sym, to_record}
 use Rattle.sim_top.proofs.Common.{◌≡◌, List, IfSome, Some, Ok, Err, Option, Result, codes, Answer, File, IsAnswerTo, RigsCameBackBy, rules}

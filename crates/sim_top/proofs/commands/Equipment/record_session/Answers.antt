@@ -1,8 +1,8 @@
 -- All rigs are handed to the session and come back cleared; then the first plays the log of its released turns, or there was no memory.
-use Rattle.{sim_client.specs.StageWords.AreCleared, sim_session.specs.SessionWords.rigs_by, sim_session_text.specs.Recording.released_turns}
+use Rattle.{sim_client.specs.StageWords.AreCleared, sim_session.specs.SessionWords.rigs_by, sim_session.specs.Recording.released_turns}
 use Rattle.{sim_laws.specs.CommandLaws.IsOrderOf, sim_top.proofs.Returning.All-unmap, std.proofs.lemmas.List.Elements.All-map}
 use Rattle.sim_base.specs.declared.command.PlayerCommand.{PlayerCommand}
-use Rattle.sim_session_text.{proofs.Builds.all_built_so, proofs.Builds.none_built, specs.Rigs.AllBuiltAtMost, specs.Rigs.builds_of}
+use Rattle.sim_session.{proofs.Builds.all_built_so, proofs.Builds.none_built, specs.Rigs.AllBuiltAtMost, specs.Rigs.builds_of}
 use Rattle.std.specs.Prelude.{if◌then◌else◌, ◌==◌}
 use Rattle.sim_top.proofs.Common.{◌≡◌, ◌≤◌, List, length, drop, Ok, codes, All, ap, arith, HaveKinds, IsMade, log_after, logged_as, rules}
 use Rattle.sim_top.proofs.Common.{session_of, state_after, subst, sym, systems_by, ◌∙◌}

@@ -1,0 +1,39 @@
+//! The line of what a client has come to.
+
+ghost use Rattle.std.specs.Prelude.{◌≡◌, ◌++◌, OnOk, OnErr, string_bytes};
+ghost use Rattle.sim_session.specs.Endings.{end_line};
+
+use sim_base::OutOfMemory;
+use sim_report::push_turn;
+
+/// What a client has come to: it is off, waits for a state, or stands at a turn with a state of this digest.
+#[derive(Clone, Copy, Debug, PartialEq, Eq)]
+pub enum End {
+    Off,
+    Joining,
+    On { turn: u32, digest: [u8; 16] },
+}
+
+/// Appends the line of a client and of what it has come to, or leaves the text as it was.
+pub fn push_end(client: u8, end: &End, out: &mut String) -> Result<(), OutOfMemory>
+    ensures ok { OnOk result (string_bytes out.new ≡ string_bytes out.old ++ end_line client end.now) }
+    ensures err { OnErr result (string_bytes out.new ≡ string_bytes out.old) }
+{
+    let mut line = String::new(*out.allocator());
+    write_end(client, end, &mut line)?;
+    out.push_str(line.as_str())?;
+    Ok(())
+}
+
+// The line is written as a text of its own, of which nothing is said after an error.
+fn write_end(client: u8, end: &End, line: &mut String) -> Result<(), OutOfMemory>
+    ensures { OnOk result (string_bytes line.new ≡ string_bytes line.old ++ end_line client end.now) }
+{
+    write!(line, "end {client} ")?;
+    match end {
+        End::Off => line.push_str("off\n")?,
+        End::Joining => line.push_str("joining\n")?,
+        End::On { turn, digest } => push_turn("on", *turn, digest, line)?,
+    }
+    Ok(())
+}

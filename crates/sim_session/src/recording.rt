@@ -1,0 +1,128 @@
+//! A session that is gone through without a word of it, for the commands that were kept of its released turns.
+
+ghost use Rattle.{sim_base.specs.Limits.IsSetup, sim_server.specs.Standing.server_of, sim_system.specs.Meanings.HaveKinds, std.specs.List.range_with_len};
+ghost use Rattle.{sim_client.specs.StageWords.AreCleared, sim_lists.specs.StepLists.IsStepList, sim_session.specs.Standing.StandsFor};
+ghost use Rattle.{sim_plain_session.specs.Printed.events_after, sim_plain_session.specs.Sessions.opened, sim_session.specs.SessionText.session_of};
+ghost use Rattle.std.specs.Prelude.{◌≡◌, ◌≤◌, map, length, take, drop, IfOk, OnOk, vec_capacity, All};
+ghost use Rattle.sim_session.specs.SessionWords.{clients_in, IsSession, MayFinish, rigs_of, room_in, seen_in, setup_in, spare_in, systems_in};
+ghost use Rattle.sim_session.specs.{Recording.released_turns as turns_released, Rigs.AllBuiltAtMost, Rigs.builds_of, Rigs.loads_in};
+
+use sim_base::{Items, OutOfMemory, PlayerCommand, Setup};
+use sim_lists::StepList;
+use sim_orders::OrderTable;
+use sim_replay::{Orders, Turns};
+use sim_server::Server;
+use crate::Session;
+use sim_system::{Rig, System};
+use std::alloc::Global;
+
+// Makes each step of the list.
+fn make_steps(session: &mut Session<'_>, list: &StepList) -> Result<(), OutOfMemory>
+    requires session { IsSession session.old ⟦<dyn System as System>⟧ }
+    requires list { IsStepList (setup_in session.old).players list.now }
+    requires opened { StandsFor (setup_in session.old) (seen_in session.old) (opened (setup_in session.old) list.now.clients) }
+    ensures stands { OnOk result (StandsFor (setup_in session.old) (seen_in session.new) (session_of (setup_in session.old) list.now)) }
+    ensures built { AllBuiltAtMost (loads_in (events_after (setup_in session.old) (opened (setup_in session.old) list.now.clients) list.now.steps))
+        (setup_in session.old).players (systems_in session.old ⟦<dyn System as System>⟧) (systems_in session.new ⟦<dyn System as System>⟧) }
+    ensures session { OnOk result (IsSession session.new ⟦<dyn System as System>⟧) }
+    ensures finish { MayFinish session.new ⟦<dyn System as System>⟧ }
+    ensures setup { setup_in session.new ≡ setup_in session.old }
+    ensures spare { spare_in session.new ≡ spare_in session.old }
+    ensures room { room_in session.new ≡ room_in session.old }
+    ensures count { length (clients_in session.new) ≡ length (clients_in session.old) }
+{
+    for step in list.steps.as_slice() {
+        session.step(step)?;
+    }
+    Ok(())
+}
+
+// Begins the session, makes its steps, and gives the commands of its released turns.
+fn record(alloc: Global, session: &mut Session<'_>, list: &StepList) -> Result<Turns, OutOfMemory>
+    requires session { IsSession session.old ⟦<dyn System as System>⟧ }
+    requires list { IsStepList (setup_in session.old).players list.now }
+    requires opened { StandsFor (setup_in session.old) (seen_in session.old) (opened (setup_in session.old) 0) }
+    ensures turns { IfOk result (λ turns. turns ≡ turns_released (session_of (setup_in session.old) list.now)) }
+    ensures built { AllBuiltAtMost (builds_of (setup_in session.old) list.now) (setup_in session.old).players (systems_in session.old ⟦<dyn System as System>⟧)
+        (systems_in session.new ⟦<dyn System as System>⟧) }
+    ensures finish { MayFinish session.new ⟦<dyn System as System>⟧ }
+    ensures setup { setup_in session.new ≡ setup_in session.old }
+    ensures spare { spare_in session.new ≡ spare_in session.old }
+    ensures room { room_in session.new ≡ room_in session.old }
+    ensures count { length (clients_in session.new) ≡ length (clients_in session.old) }
+{
+    session.start(list.clients)?;
+    make_steps(session, list)?;
+    turns_of(alloc, session.server())
+}
+
+// The commands that a server keeps of its released turns.
+fn turns_of(alloc: Global, server: &Server) -> Result<Turns, OutOfMemory>
+    ensures { IfOk result (λ turns. turns ≡ map (server_of server.now).kept (range_with_len 1 (server_of server.now).released)) }
+{
+    let mut turns = Turns::new(alloc);
+    for before in 0..server.released() {
+        turns.push(copied(alloc, server.kept(before + 1))?)?;
+    }
+    Ok(turns)
+}
+
+fn copied(alloc: Global, commands: &[PlayerCommand]) -> Result<Orders, OutOfMemory>
+    ensures { IfOk result (λ copied. copied ≡ commands.now) }
+{
+    let mut copied = Items::new(alloc);
+    for command in commands {
+        copied.push(command.copy()?)?;
+    }
+    Ok(copied)
+}
+
+// Has the first so many rigs forget all.
+fn clear(rigs: &mut Vec<Rig>, count: u8)
+    requires { count ≤ length rigs.old.items }
+    ensures cleared { All AreCleared (take count (rigs_of rigs.new.items ⟦<dyn System as System>⟧)) }
+    ensures built { AllBuiltAtMost (λ c. 0) count (rigs_of rigs.old.items ⟦<dyn System as System>⟧) (rigs_of rigs.new.items ⟦<dyn System as System>⟧) }
+    ensures kinds { All HaveKinds (rigs_of rigs.old.items ⟦<dyn System as System>⟧) → All HaveKinds (rigs_of rigs.new.items ⟦<dyn System as System>⟧) }
+    ensures spare { drop count rigs.new.items ≡ drop count rigs.old.items }
+    ensures count { length rigs.new.items ≡ length rigs.old.items }
+    ensures room { vec_capacity rigs.new ≡ vec_capacity rigs.old }
+{
+    for i in 0..count {
+        rigs[i as usize].clear();
+    }
+}
+
+/// The commands of the turns that are released after a session over a list of steps, in which client c has the c-th of eight
+/// cleared rigs. All rigs come back cleared and in their order, whether there was memory or not: those of a client were built
+/// at most once for its start and once for each state that it loads in these steps.
+pub fn released_turns(
+    alloc: Global,
+    setup: &Setup,
+    orders: &OrderTable,
+    list: &StepList,
+    rigs: Vec<Rig>,
+) -> (Result<Turns, OutOfMemory>, Vec<Rig>)
+    requires limits { IsSetup setup.now }
+    requires list { IsStepList setup.now.players list.now }
+    requires eight { length rigs.items ≡ 8 }
+    requires kinds { All HaveKinds (rigs_of rigs.items ⟦<dyn System as System>⟧) }
+    requires cleared { All AreCleared (rigs_of rigs.items ⟦<dyn System as System>⟧) }
+    ensures turns { IfOk result.0 (λ turns. turns ≡ turns_released (session_of setup.now list.now)) }
+    ensures built { AllBuiltAtMost (builds_of setup.now list.now) setup.now.players (rigs_of rigs.items ⟦<dyn System as System>⟧)
+        (rigs_of result.1.items ⟦<dyn System as System>⟧) }
+    ensures cleared { All AreCleared (rigs_of result.1.items ⟦<dyn System as System>⟧) }
+    ensures kinds { All HaveKinds (rigs_of result.1.items ⟦<dyn System as System>⟧) }
+    ensures spare { drop setup.now.players result.1.items ≡ drop setup.now.players rigs.items }
+    ensures eight { length result.1.items ≡ 8 }
+    ensures room { vec_capacity result.1 ≡ vec_capacity rigs }
+{
+    match Session::new(alloc, setup, orders, rigs) {
+        Ok(mut session) => {
+            let turns = record(alloc, &mut session, list);
+            let mut rigs = session.finish();
+            clear(&mut rigs, setup.players);
+            (turns, rigs)
+        }
+        Err(rigs) => (Err(OutOfMemory), rigs),
+    }
+}

@@ -1,6 +1,0 @@
--- Both are lemmas.
-use Rattle.sim_session_text.proofs.Differing.{apart_where_different, unbent_are_together}
-use Rattle.sim_session_text.proofs.laws.clients_apart_differ.Goals as goal
-
-pub returns : goal.returns
-returns c = record { different = apart_where_different; unbent = unbent_are_together }

@@ -1,6 +1,0 @@
--- The commands so far are copied.
-use Rattle.sim_session_text.proofs.Common.{◌≡◌, take}
-use Rattle.sim_session_text.proofs.recording.copied.Given as goal
-
-abbrev pub invariant-loop-command : goal.invariant-loop-command
-invariant-loop-command l = l.copied ≡ take l.command-index l.commands

@@ -1,9 +1,0 @@
-pub mod Endings
-pub mod Pairs
-pub mod Pipes
-pub mod SessionText
-pub mod Laws
-pub mod Seen
-pub mod Rigs
-pub mod Starts
-pub mod Recording
