@@ -4,7 +4,7 @@ use Rattle.std.proofs.Common.{◌≡◌, ℕ, List, ◌++◌, Option, ap, arith,
 use Rattle.sim_base.specs.{declared.setup.Setup.Setup, declared.state.State.State, Limits.IsFrom}
 use Rattle.sim_live.specs.{Looks.IsLook, Shown.look_text, Shown.shown_as, Shown.told_as, declared.look.Look.Look}
 use Rattle.{sim_pipes.specs.Exchanges.Held, sim_pipes.specs.Pipes.pipe_in, sim_plain_session.specs.Sessions.Session}
-use Rattle.{sim_client.specs.ClientWords.state_of, sim_client.specs.Lives.Life, sim_plain.specs.Server.Server, sim_serve.specs.Served.kept_lines}
+use Rattle.{sim_client.specs.ClientWords.state_of, sim_client.specs.Lives.Life, sim_plain.specs.Server.Server, sim_session.specs.Served.kept_lines}
 use Rattle.{sim_report.specs.Downs.released_line, sim_server.specs.Standing.server_of}
 use Rattle.sim_session.proofs.Seeing.{end_same, endings_same, frames_are, pipes_same, state_same}
 use Rattle.sim_session.specs.{Endings.end_line, Pipes.pipe_lines, Seen.ending_seen, Seen.pipes_seen, SessionText.ending_lines, declared.ending.End.End}

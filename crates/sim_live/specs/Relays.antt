@@ -1,5 +1,5 @@
 -- The server as a talk: what is answered to a line behind all that has arrived, and what a whole talk is.
-use Rattle.{sim_base.specs.Limits.IsFrom, sim_report.specs.Downs.released_line, sim_serve.specs.Served.kept_lines, sim_wire.specs.Frames.down_frame}
+use Rattle.{sim_base.specs.Limits.IsFrom, sim_report.specs.Downs.released_line, sim_session.specs.Served.kept_lines, sim_wire.specs.Frames.down_frame}
 use Rattle.{sim_server.specs.Standing.StandsFor, sim_server.specs.Standing.View, sim_talk.specs.Marks.ok_line, sim_talk.specs.Marks.refused_line}
 use Rattle.std.specs.Prelude.{◌≡◌, ℕ, ◌+◌, ◌≤◌, List, [], ◌∷◌, ◌++◌, length, ⊤, Some, None, Ok, Err, codes, decimal, flat_map, Option, Result}
 use Rattle.hex.specs.Hex.{encode_lower}

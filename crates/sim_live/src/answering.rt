@@ -10,8 +10,7 @@ ghost use Rattle.sim_session.specs.SessionWords.{clients_in, IsSession, MayFinis
 use crate::line::{Line, line_of};
 use crate::looking::push_look;
 use sim_base::{OutOfMemory, Step};
-use sim_session::Session;
-use sim_session::push_events;
+use sim_session::{Session, push_events};
 use sim_system::System;
 use sim_talk::{push_ok, push_refused};
 use std::alloc::Global;

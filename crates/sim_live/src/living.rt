@@ -11,8 +11,7 @@ ghost use Rattle.sim_session.specs.SessionWords.{clients_in, IsSession, MayFinis
 use crate::answering::answer;
 use sim_base::{OutOfMemory, Setup};
 use sim_orders::OrderTable;
-use sim_session::Session;
-use sim_session::{push_ending, push_starts};
+use sim_session::{Session, push_ending, push_starts};
 use sim_system::{Rig, System};
 use sim_talk::{Talk, TalkFault, settled};
 use std::alloc::Global;

@@ -12,8 +12,7 @@ use sim_bytes::push_hex;
 use sim_client::Client;
 use sim_codec::spell;
 use sim_report::push_show;
-use sim_session::Session;
-use sim_session::{end_of, push_end, push_pipes, push_server};
+use sim_session::{Session, end_of, push_end, push_pipes, push_server};
 use sim_system::System;
 
 /// Appends what is seen of a session. Of the text nothing is said after an error, here and below.

@@ -9,8 +9,8 @@ ghost use Rattle.sim_server.specs.{Small.IsSmallServer, Standing.server_of, Stan
 use crate::replying::reply;
 use sim_base::OutOfMemory;
 use sim_report::push_released;
-use sim_serve::push_all_kept;
 use sim_server::Server;
+use sim_session::push_all_kept;
 use sim_talk::{Talk, TalkFault, settled};
 use std::alloc::Global;
 

@@ -23,3 +23,5 @@ pub mod Loads
 pub mod Builds
 pub mod Stopping
 pub mod Clearing
+pub mod Histories
+pub mod Saying

@@ -11,3 +11,5 @@ pub mod Seen
 pub mod Rigs
 pub mod Starts
 pub mod Recording
+pub mod Served
+pub mod ServedLaws

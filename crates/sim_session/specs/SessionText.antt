@@ -1,6 +1,6 @@
 -- The whole text of a session.
 use Rattle.{sim_lists.specs.declared.step_list.StepList.StepList, sim_report.specs.Downs.released_line, sim_report.specs.Events.event_line}
-use Rattle.{sim_plain.specs.Server.Server, sim_serve.specs.Served.kept_lines}
+use Rattle.{sim_plain.specs.Server.Server, sim_session.specs.Served.kept_lines}
 use Rattle.std.specs.Prelude.{ℕ, List, ◌++◌, flat_map}
 use Rattle.sim_base.specs.declared.{setup.Setup.Setup, step.Event.Event, step.Step.Step}
 use Rattle.sim_plain_session.specs.{Printed.events, Printed.session_events, Sessions.Session, Sessions.session}

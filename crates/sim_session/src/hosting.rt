@@ -9,13 +9,12 @@ ghost use Rattle.sim_session.specs.SessionWords.{clients_in, IsSession, MayFinis
 ghost use Rattle.sim_session.specs.{SessionText.lines_of, SessionText.session_of, SessionText.session_text as text_of_session, Starts.start_lines};
 ghost use Rattle.sim_session.specs.Rigs.{AllBuiltAtMost, AllStand, builds_of, loads_in};
 
-use crate::{push_ending, push_events};
+use crate::{Session, push_ending, push_events};
 use sim_base::{Event, OutOfMemory, Setup};
 use sim_client::Client;
 use sim_lists::StepList;
 use sim_orders::OrderTable;
 use sim_report::push_event;
-use crate::Session;
 use sim_system::{Rig, System};
 use std::alloc::Global;
 

@@ -2,11 +2,11 @@
 
 ghost use Rattle.{sim_report.specs.Downs.released_line, sim_server.specs.Standing.server_of as plain_server, sim_session.specs.SessionText.lines_of};
 ghost use Rattle.std.specs.Prelude.{◌≡◌, ◌++◌, OnOk, string_bytes};
-ghost use Rattle.sim_serve.specs.Served.{kept_lines};
+ghost use Rattle.sim_session.specs.Served.{kept_lines};
 
+use crate::push_all_kept;
 use sim_base::{Events, OutOfMemory};
 use sim_report::{push_event, push_released};
-use sim_serve::push_all_kept;
 use sim_server::Server;
 
 /// Appends a line of each event.

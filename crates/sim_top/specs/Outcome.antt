@@ -1,6 +1,6 @@
 -- What the words ask for: a status, a text and perhaps a file that is saved, by the files that are held. A stored state is
 -- the one that its bytes stand for, or the first cause for which they stand for none.
-use Rattle.{sim_codec.specs.Loading.RefusedFor, sim_report.specs.Places.place_text, sim_serve.specs.Served.served_text, sim_store.specs.Reading.reading_of}
+use Rattle.{sim_codec.specs.Loading.RefusedFor, sim_report.specs.Places.place_text, sim_session.specs.Served.served_text, sim_store.specs.Reading.reading_of}
 use Rattle.{sim_diff.specs.declared.place.Place.Place, sim_territory.specs.Realms.realm_of, sim_trial.specs.Trial.text_of_trial}
 use Rattle.{sim_setup.specs.Refusals.Refusal, sim_vision.specs.Vision.cells_in}
 use Rattle.std.specs.Prelude.{◌≡◌, ℕ, ◌*◌, List, [], length, if◌then◌else◌, nat_lt, Some, None, Ok, Err, codes, Option, Result}

@@ -5,7 +5,7 @@ ghost use Rattle.sim_top.specs.{Commands.IsAnswerTo, Commands.shelved, Words.to_
 use super::{Answer, shown};
 use crate::inputs::read_schedule;
 use crate::stop::Stop;
-use sim_serve::served_text;
+use sim_session::served_text;
 use sim_store::Shelf;
 use std::alloc::Global;
 

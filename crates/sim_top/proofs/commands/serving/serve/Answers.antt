@@ -1,5 +1,5 @@
 -- The schedule was read and served, or it could not be read.
-use Rattle.sim_serve.specs.Served.{served_text}
+use Rattle.sim_session.specs.Served.{served_text}
 use Rattle.sim_top.proofs.{Answering.comes_to, Answering.list_ends_at, Common.shelved, Common.Stop, Common.Stopped, Common.subst, Common.sym, Common.to_serve}
 use Rattle.sim_top.proofs.{Playing.text_made, Stopping.Stopped-weaker, Stopping.Then-ended, Stopping.Then-read, Stopping.Told}
 use Rattle.sim_top.proofs.Common.{◌≡◌, Some, Ok, Err, Result, refl, Answer, Done, IsAnswerTo, IsOutcomeOf, Outcome, printed, rules, Schedule, schedule_in}

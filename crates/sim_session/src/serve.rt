@@ -3,7 +3,7 @@
 ghost use Rattle.{sim_plain.specs.Messages.Arrival as PlainArrival, sim_report.specs.Downs.post_line};
 ghost use Rattle.std.specs.Prelude.{◌≡◌, ℕ, List, ◌++◌, map, length, IfOk, OnOk, string_bytes, All, flat_map};
 ghost use Rattle.sim_lists.specs.{Arrivals.plain_arrival, Schedules.IsFromClient, Schedules.IsSchedule};
-ghost use Rattle.sim_serve.specs.Served.{history, kept_lines, kept_of, said_lines, served_text as text_of_schedule};
+ghost use Rattle.sim_session.specs.Served.{history, kept_lines, kept_of, said_lines, served_text as text_of_schedule};
 ghost use Rattle.sim_server.specs.Standing.{Answers, IsClient, server_of as plain_server, StandsFor};
 
 use sim_base::OutOfMemory;

@@ -2,8 +2,8 @@
 use Rattle.{sim_lists.specs.Arrivals.plain_arrival, std.specs.Prelude.string_bytes, std.specs.Vec.Iter.into_iter_items}
 use Rattle.std.proofs.Common.{◌≡◌, [], ◌∷◌, map, length, ap, append_assoc, arith, sym, ◌∙◌}
 use Rattle.sim_plain.specs.{Posts.posts_of, Server.server_after, declared.rules.Rules.Rules}
-use Rattle.sim_serve.{proofs.Histories.history_more, proofs.Histories.said_more, specs.Served.history}
-use Rattle.sim_serve.proofs.serve.push_said.Goals as goal
+use Rattle.sim_session.{proofs.Histories.history_more, proofs.Histories.said_more, specs.Served.history}
+use Rattle.sim_session.proofs.serve.push_said.Goals as goal
 
 pub loop-arrival-preserved : goal.loop-arrival-preserved
 loop-arrival-preserved c =

@@ -1,8 +1,8 @@
 -- The server stands for the arrivals so far, and the text has the lines of what was said at them.
 use Rattle.{sim_lists.specs.Arrivals.plain_arrival, std.specs.Prelude.string_bytes, std.specs.Vec.Iter.into_iter_items, std.specs.Vec.Iter.into_iter_len}
-use Rattle.{sim_plain.specs.Messages.Arrival, sim_serve.specs.Served.history, sim_serve.specs.Served.said_lines, sim_server.specs.Standing.StandsFor}
+use Rattle.{sim_plain.specs.Messages.Arrival, sim_session.specs.Served.history, sim_session.specs.Served.said_lines, sim_server.specs.Standing.StandsFor}
 use Rattle.std.proofs.Common.{◌≡◌, ℕ, List, ◌++◌, map, length}
-use Rattle.sim_serve.proofs.serve.push_said.Given as goal
+use Rattle.sim_session.proofs.serve.push_said.Given as goal
 
 abbrev pub invariant-loop-arrival : goal.invariant-loop-arrival
 invariant-loop-arrival l = record {

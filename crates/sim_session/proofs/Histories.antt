@@ -4,7 +4,7 @@ use Rattle.std.proofs.{Common.length-append, Common.subst, Common.sym, Common.�
 use Rattle.std.proofs.Common.{◌≡◌, ℕ, ◌+◌, ◌<◌, ◌≤◌, List, [], ◌∷◌, ◌++◌, map, length, get_or, refl, add-one, ap, append-nil, append_assoc, arith}
 use Rattle.sim_lists.specs.{Arrivals.plain_arrival, Schedules.IsFromClient, declared.schedule.Arrival.Arrival as Listed}
 use Rattle.sim_plain.specs.{Messages.Arrival, Posts.posts_of, Posts.served, Server.server_after, declared.message.PostOf.PostOf, declared.rules.Rules.Rules}
-use Rattle.sim_serve.specs.Served.{history, kept_lines, kept_of, said_lines}
+use Rattle.sim_session.specs.Served.{history, kept_lines, kept_of, said_lines}
 
 pub history-append : {B : Type 0} (h xs : List (Arrival B)) (a : Arrival B) → history h (xs ++ a ∷ []) ≡ a ∷ history h xs
 history-append h [] a = refl

@@ -5,7 +5,7 @@ use Rattle.sim_plain.specs.{Messages.Arrival, Messages.Cut, Messages.Heard, Mess
 use Rattle.sim_plain.specs.{Notices.notice_in, Notices.noticed, Notices.notices, Notices.notices_given, Notices.Report, Posts.posts}
 use Rattle.sim_plain.specs.Server.{command_fault, done_fault, is_in, is_out, report_fault, Server, server_after, takes_state}
 use Rattle.sim_plain.specs.declared.status.Status.{Status, TheVariants.In, TheVariants.Out, TheVariants.Waiting}
-use Rattle.{sim_plain.proofs.Told.none_told, sim_plain.proofs.Told.told, sim_serve.specs.Laws.told_to_senders}
+use Rattle.{sim_plain.proofs.Told.none_told, sim_plain.proofs.Told.told, sim_session.specs.ServedLaws.told_to_senders}
 use Rattle.sim_plain.specs.declared.message.UpOf.TheVariants as up
 
 abbrev Bytes : Type 0

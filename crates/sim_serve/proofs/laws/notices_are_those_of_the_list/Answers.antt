@@ -1,6 +1,0 @@
--- The law is the lemma of this name.
-use Rattle.sim_serve.proofs.Saying.{notices_are_said}
-use Rattle.sim_serve.proofs.laws.notices_are_those_of_the_list.Goals as goal
-
-pub returns : goal.returns
-returns c = notices_are_said
