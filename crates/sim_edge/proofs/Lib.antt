@@ -1,2 +1,4 @@
 pub mod Tries
 pub mod Examples
+pub mod Counting
+pub mod Refusing

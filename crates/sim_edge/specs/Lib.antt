@@ -3,3 +3,6 @@ pub mod Answers
 pub mod Known
 pub mod Process
 pub mod Run
+pub mod Words
+pub mod Endings
+pub mod Talked

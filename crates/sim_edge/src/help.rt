@@ -1,6 +1,6 @@
 //! What somebody at a terminal is told where he asks for help, by the talk that he asked for.
 
-use sim_talk_top::Asked;
+use crate::asking::Asked;
 
 // Of a session.
 const LIVE_HELP: &str = "\

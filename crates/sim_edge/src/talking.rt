@@ -1,17 +1,19 @@
 //! A talk with a planner for each kind of command, over any shelf and any talk, and the number that the process then ends with.
 
 ghost use Rattle.{sim_client.specs.StageWords.AreCleared, sim_system.specs.Meanings.HaveKinds, sim_system.specs.RigWords.systems_of};
-ghost use Rattle.{sim_edge.specs.Process.talk_number_of, sim_talk_top.specs.Words.talk_of};
-ghost use Rattle.sim_talk_top.specs.Talked.{IsTalk, OfRelay, ShelfCauses, TalkCauses, TalksOf};
+ghost use Rattle.{sim_edge.specs.Process.talk_number_of, sim_edge.specs.Words.talk_of};
+ghost use Rattle.sim_edge.specs.Talked.{IsTalk, OfRelay, ShelfCauses, TalkCauses, TalksOf};
 ghost use Rattle.std.specs.Prelude.{◌≡◌, [], length, IfSome, IfOk, OnErr, All};
 
+use crate::asking::Asked;
+use crate::conversing::converse;
+use crate::ending::Ending;
 use crate::running::planned;
 use sim_base::OutOfMemory;
 use sim_orders::{Handler, OrderTable, Planner};
 use sim_store::Shelf;
 use sim_system::{Rig, System};
 use sim_talk::Talk;
-use sim_talk_top::{Asked, Ending, converse};
 use std::alloc::Global;
 
 /// Talks with these cleared rigs. Where there is no memory for the handlers, the talk does not begin.

@@ -4,7 +4,8 @@ ghost use Rattle.std.specs.Prelude.{◌≡◌, ◌++◌, OnOk, string_bytes};
 ghost use Rattle.sim_client.specs.ClientWords.{IsSound, life, setup_in, state_of};
 ghost use Rattle.sim_session.specs.{Pairs.pair_apart, Seen.end_seen};
 
-use crate::{End, push_difference};
+use crate::apart::push_difference;
+use crate::ending::End;
 use sim_base::OutOfMemory;
 use sim_client::Client;
 use sim_system::System;

@@ -4,8 +4,10 @@ ghost use Rattle.{sim_client.specs.ClientWords.life, sim_pipes.specs.Pipes.pipe_
 ghost use Rattle.std.specs.Prelude.{◌≡◌, ◌≤◌, ◌++◌, length, OnOk, string_bytes, All};
 ghost use Rattle.sim_session.specs.Seen.{beside_seen, ending_seen, ends_seen, IsMember, life_at, pairs_seen, pipes_seen};
 
-use crate::clients::push_pair;
-use crate::{end_of, push_end, push_pipe, push_server};
+use crate::clients::{end_of, push_pair};
+use crate::ending::push_end;
+use crate::pipe::push_pipe;
+use crate::told::push_server;
 use sim_base::{OutOfMemory, Setup};
 use sim_client::Client;
 use sim_pipes::Exchange;

@@ -9,7 +9,9 @@ ghost use Rattle.sim_session.specs.SessionWords.{clients_in, IsSession, MayFinis
 ghost use Rattle.sim_session.specs.{SessionText.lines_of, SessionText.session_of, SessionText.session_text as text_of_session, Starts.start_lines};
 ghost use Rattle.sim_session.specs.Rigs.{AllBuiltAtMost, AllStand, builds_of, loads_in};
 
-use crate::{Session, push_ending, push_events};
+use crate::closing::push_ending;
+use crate::session::Session;
+use crate::told::push_events;
 use sim_base::{Event, OutOfMemory, Setup};
 use sim_client::Client;
 use sim_lists::StepList;

@@ -7,7 +7,7 @@ ghost use Rattle.std.specs.Prelude.{◌≡◌, ◌≤◌, map, length, take, dro
 ghost use Rattle.sim_session.specs.SessionWords.{clients_in, IsSession, MayFinish, rigs_of, room_in, seen_in, setup_in, spare_in, systems_in};
 ghost use Rattle.sim_session.specs.{Recording.released_turns as turns_released, Rigs.AllBuiltAtMost, Rigs.builds_of, Rigs.loads_in};
 
-use crate::Session;
+use crate::session::Session;
 use sim_base::{Items, OutOfMemory, PlayerCommand, Setup};
 use sim_lists::StepList;
 use sim_orders::OrderTable;

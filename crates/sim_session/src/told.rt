@@ -4,7 +4,7 @@ ghost use Rattle.{sim_report.specs.Downs.released_line, sim_server.specs.Standin
 ghost use Rattle.std.specs.Prelude.{◌≡◌, ◌++◌, OnOk, string_bytes};
 ghost use Rattle.sim_session.specs.Served.{kept_lines};
 
-use crate::push_all_kept;
+use crate::serve::push_all_kept;
 use sim_base::{Events, OutOfMemory};
 use sim_report::{push_event, push_released};
 use sim_server::Server;

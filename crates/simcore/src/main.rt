@@ -2,19 +2,18 @@
 //! run or to the talk. Whatever the edge does is done in `sim_edge`, and whatever can be decided is decided below that.
 #![tactic(auto)]
 
-ghost use Rattle.sim_talk_top.specs.{Talked.IsTalk, Words.talk_of};
+ghost use Rattle.sim_edge.specs.{Talked.IsTalk, Words.talk_of};
 
 use sim_base::OutOfMemory;
 use sim_census::Census;
 use sim_edge::{
-    FileShelf, InSource, OutSink, SystemFiles, add_rig, exit_number, help_of, run_with,
-    talk_number, talk_with, words_of,
+    Asked, Ending, FileShelf, InSource, OutSink, SystemFiles, add_rig, asked_of, exit_number,
+    help_of, most_of, run_with, talk_number, talk_with, words_of,
 };
 use sim_ground::{Ground, Rooms};
 use sim_range::Range;
 use sim_system::{Rig, System};
 use sim_talk::{LineTalk, PromptTalk};
-use sim_talk_top::{Asked, Ending, asked_of, most_of};
 use sim_top::Status;
 use sim_watch::Watch;
 use std::io::IsTerminal;

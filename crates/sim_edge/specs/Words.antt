@@ -2,7 +2,7 @@
 use Rattle.{sim_json.specs.Records.next_or, sim_live.specs.declared.relaying.RelayRules.RelayRules as Rules, sim_top.specs.Words.turn_in}
 use Rattle.std.specs.Prelude.{ℕ, ◌&&◌, List, [], ◌∷◌, if◌then◌else◌, nat_le, Some, None, codes, Option, option_map, option_and_then}
 use Rattle.std.specs.Str.{bytes_eq}
-use Rattle.sim_talk_top.specs.declared.words.Asked.{Asked, TheVariants.Live, TheVariants.Relay}
+use Rattle.sim_edge.specs.declared.asking.Asked.{Asked, TheVariants.Live, TheVariants.Relay}
 
 -- what is asked for: a session of the match of a file, that begins with so many clients; or the server
 pub data Talk : Type 0 where

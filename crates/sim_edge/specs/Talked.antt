@@ -4,11 +4,11 @@ use Rattle.{sim_live.specs.Relays.IsRelay, sim_live.specs.Relays.Relays, sim_liv
 use Rattle.std.specs.Prelude.{◌≡◌, ℕ, ◌<◌, ◌≤◌, ◌⊎◌, List, [], ◌∷◌, length, ⊤, Ok, Err, Result}
 use Rattle.sim_base.specs.{Limits.IsFrom, declared.setup.Setup.Setup}
 use Rattle.sim_talk.specs.{Talks.Breaks, Talks.Extends, Talks.History, Talks.IsBeginning, Talks.Passed, Talks.told, declared.fault.TalkFault.TalkFault}
-use Rattle.sim_talk_top.specs.{Endings.ended_as, Words.Talk, Words.to_live, Words.to_relay, declared.ending.Ending.Ending}
+use Rattle.sim_edge.specs.{Endings.ended_as, Words.Talk, Words.to_live, Words.to_relay, declared.ending.Ending.Ending}
 use Rattle.sim_top.specs.{Answers.GaveThenFailed, Answers.IsSilent, Outcome.Outcome, Outcome.session_match_in, Stops.ended_by, Stops.status_of}
 use Rattle.sim_top.specs.{Stops.stop_text, declared.status.Status.Status, declared.stop.Stop.Stop}
 use Rattle.sim_store.specs.{Counts.raised, Counts.Rose, declared.counts.Counts.Counts}
-use Rattle.sim_talk_top.specs.declared.ending.Ending.TheVariants as ending
+use Rattle.sim_edge.specs.declared.ending.Ending.TheVariants as ending
 use Rattle.sim_top.specs.declared.status.Status.TheVariants as status
 use Rattle.sim_top.specs.declared.stop.Stop.TheVariants as stop
 

@@ -1,12 +1,12 @@
 -- Why a talk does not begin, and what was told of it.
 use Rattle.{sim_base.specs.declared.setup.Setup.Setup, std.specs.Prelude.IfSome, sim_store.specs.declared.fault.Failed.Failed}
-use Rattle.{sim_talk.proofs.Talking.Extends-nothing, sim_talk_top.specs.declared.ending.Ending.Ending, sim_top.specs.declared.status.Status.Status}
+use Rattle.{sim_talk.proofs.Talking.Extends-nothing, sim_edge.specs.declared.ending.Ending.Ending, sim_top.specs.declared.status.Status.Status}
 use Rattle.sim_talk.specs.Talks.{Extends, History, Tells}
-use Rattle.sim_talk_top.specs.Talked.{between, CameBetween, in_part, LiveBy, ReadsBy, Refused, silent, TalkedOver, whole}
+use Rattle.sim_edge.specs.Talked.{between, CameBetween, in_part, LiveBy, ReadsBy, Refused, silent, TalkedOver, whole}
 use Rattle.sim_top.specs.{Outcome.Outcome, Stops.ended_by, Stops.status_of, Stops.stop_text, Stops.Stopped, declared.stop.Stop.Stop}
 use Rattle.std.proofs.Common.{◌≡◌, ℕ, ◌<◌, ◌≤◌, ◌⊎◌, List, [], ◌∷◌, length, Some, None, Ok, Err, Option, Result, refl, inl, inr, arith, subst, sym}
 use Rattle.sim_talk.specs.Talks as talks
-use Rattle.sim_talk_top.specs.declared.ending.Ending.TheVariants as ending
+use Rattle.sim_edge.specs.declared.ending.Ending.TheVariants as ending
 use Rattle.sim_top.specs.declared.status.Status.TheVariants as status
 use Rattle.sim_top.specs.declared.stop.Stop.TheVariants as stop
 

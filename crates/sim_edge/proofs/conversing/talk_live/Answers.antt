@@ -1,7 +1,7 @@
 -- The talk took place, and ended as it ended; all rigs are handed to it and come back.
 use Rattle.{sim_client.specs.StageWords.AreCleared, sim_top.proofs.Returning.All-unmap, std.proofs.lemmas.List.Elements.All-map}
 use Rattle.sim_system.specs.{Meanings.HaveKinds, RigWords.systems_by}
-use Rattle.sim_talk_top.proofs.talking.talk_live.Goals as goal
+use Rattle.sim_edge.proofs.conversing.talk_live.Goals as goal
 
 pub live-outcome-requires-clause-kinds : goal.live-outcome-requires-clause-kinds
 live-outcome-requires-clause-kinds g c =

@@ -3,7 +3,7 @@ use Rattle.{sim_store.specs.declared.fault.Failed.Failed, sim_talk.proofs.Talkin
 use Rattle.sim_talk.specs.Talks.{Extends, History, Settles, Tells, told}
 use Rattle.std.{proofs.Common.ℕ, proofs.Common.List, proofs.Common.[], proofs.Common.◌∷◌, specs.Prelude.⊤}
 use Rattle.std.proofs.Common.{Ok, Err, Result}
-use Rattle.sim_talk_top.proofs.talking.tell_out.Goals as goal
+use Rattle.sim_edge.proofs.conversing.tell_out.Goals as goal
 
 settled_text : (result : Result ⊤ Failed) (text : List ℕ) (a b c : History) → Extends a b (told text ∷ []) → Settles result b c → Tells result text a c
 settled_text (Ok done) text a b c one wrote = Extends-written a b c (told text ∷ []) one wrote

@@ -1,9 +1,9 @@
 -- The match is read, and has as many players as are to begin.
-use Rattle.{sim_base.specs.declared.setup.Setup.Setup, sim_talk_top.specs.Talked.ReadsFor, sim_top.specs.Outcome.session_match_in, std.specs.Prelude.IfSome}
-use Rattle.sim_talk_top.proofs.Refusing.{reads_few, reads_match, reads_stopped, where_known}
+use Rattle.{sim_base.specs.declared.setup.Setup.Setup, sim_edge.specs.Talked.ReadsFor, sim_top.specs.Outcome.session_match_in, std.specs.Prelude.IfSome}
+use Rattle.sim_edge.proofs.Refusing.{reads_few, reads_match, reads_stopped, where_known}
 use Rattle.std.proofs.Common.{◌≡◌, Err, Result, rules, subst, sym}
 use Rattle.sim_top.specs.declared.stop.Stop.{Stop}
-use Rattle.sim_talk_top.proofs.talking.session_match.Goals as goal
+use Rattle.sim_edge.proofs.conversing.session_match.Goals as goal
 
 pub returns-in_err-setup-clause-tells : goal.returns-in_err-setup-clause-tells
 returns-in_err-setup-clause-tells g c =

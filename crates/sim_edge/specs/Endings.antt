@@ -1,10 +1,10 @@
 -- How a talk ends, and the number of it.
 use Rattle.{sim_talk.specs.declared.fault.HearFault.HearFault, sim_talk.specs.declared.fault.TalkFault.TalkFault, sim_top.specs.Answers.status_number}
 use Rattle.std.specs.Prelude.{ℕ, ⊤, Ok, Err, Result}
-use Rattle.sim_talk_top.specs.declared.ending.Ending.{Ending}
+use Rattle.sim_edge.specs.declared.ending.Ending.{Ending}
 use Rattle.sim_talk.specs.declared.fault.HearFault.TheVariants as hear
 use Rattle.sim_talk.specs.declared.fault.TalkFault.TheVariants as fault
-use Rattle.sim_talk_top.specs.declared.ending.Ending.TheVariants as ending
+use Rattle.sim_edge.specs.declared.ending.Ending.TheVariants as ending
 use Rattle.sim_top.specs.declared.status.Status.TheVariants as status
 
 -- a line was not heard

@@ -1,7 +1,7 @@
 -- Other words than three and five are those of no talk.
-use Rattle.{sim_talk_top.specs.Words.talk_by, sim_top.specs.Words.words_of, std.specs.Prelude.String, std.specs.declared.alloc.Global.Global}
+use Rattle.{sim_edge.specs.Words.talk_by, sim_top.specs.Words.words_of, std.specs.Prelude.String, std.specs.declared.alloc.Global.Global}
 use Rattle.std.proofs.{Common.[], Common.arith, Common.length, Common.List, Common.None, Common.refl, Common.◌∷◌, Common.◌≡◌, lemmas.Bool.Decides.nat_tests}
-use Rattle.sim_talk_top.proofs.words.asked_of.Goals as goal
+use Rattle.sim_edge.proofs.asking.asked_of.Goals as goal
 
 other_words : (words : List (String Global)) → (length words ≡ 3 → ⊥) → (length words ≡ 5 → ⊥) → None ≡ talk_by (words_of words)
 other_words [] three five = refl

@@ -2,15 +2,15 @@
 use Rattle.{sim_live.proofs.Answered.live_caused, sim_live.proofs.Relayed.relay_caused, sim_store.specs.declared.counts.Counts.Counts}
 use Rattle.{sim_base.specs.declared.setup.Setup.Setup, sim_live.specs.declared.relaying.RelayRules.RelayRules, sim_store.specs.Counts.Rose}
 use Rattle.sim_talk.{proofs.Talking.has_lost, specs.Dialogues.Causes, specs.Talks.History, specs.declared.fault.TalkFault.TalkFault}
-use Rattle.sim_talk_top.specs.Talked.{between, in_part, IsRefusal, LiveCauses, Refused, silent, TalkCauses, TalkedAs, TalkedOver, whole}
-use Rattle.sim_talk_top.specs.{Endings.ended_as, declared.ending.Ending.Ending}
+use Rattle.sim_edge.specs.Talked.{between, in_part, IsRefusal, LiveCauses, Refused, silent, TalkCauses, TalkedAs, TalkedOver, whole}
+use Rattle.sim_edge.specs.{Endings.ended_as, declared.ending.Ending.Ending}
 use Rattle.sim_top.specs.{Answers.CountsBefore, Answers.IsSilent, Answers.OnlyGave, Stops.status_of, Stops.stop_text, declared.status.Status.Status}
 use Rattle.sim_top.specs.declared.stop.Stop.{Stop}
 use Rattle.std.{specs.Prelude.⊤, proofs.Common.◌≡◌, proofs.Common.ℕ, proofs.Common.◌<◌, proofs.Common.List, proofs.Common.length, proofs.Common.Result}
 use Rattle.std.proofs.Common.{Ok, Err, ap, arith, inl, inr, refl, subst, sym}
 use Rattle.sim_talk.specs.declared.fault.HearFault.TheVariants as hear
 use Rattle.sim_talk.specs.declared.fault.TalkFault.TheVariants as fault
-use Rattle.sim_talk_top.specs.declared.ending.Ending.TheVariants as ending
+use Rattle.sim_edge.specs.declared.ending.Ending.TheVariants as ending
 use Rattle.sim_top.specs.declared.stop.Stop.TheVariants as stop
 
 -- ---- by the talk

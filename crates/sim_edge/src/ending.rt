@@ -1,7 +1,7 @@
 //! How a talk ends: as any run does, or by a fault of hearing or telling. The numbers of the faults stand here and nowhere else.
 
 ghost use Rattle.std.specs.Prelude.{◌≡◌};
-ghost use Rattle.sim_talk_top.specs.Endings.{ending_of, number_of, unheard_as};
+ghost use Rattle.sim_edge.specs.Endings.{ending_of, number_of, unheard_as};
 
 use sim_talk::{HearFault, TalkFault};
 use sim_top::Status;

@@ -1,7 +1,7 @@
 //! The words of a talk, and how long a line of it may be.
 
 ghost use Rattle.std.specs.Prelude.{◌≡◌, ◌≤◌, IfSome, option_map};
-ghost use Rattle.sim_talk_top.specs.{Talked.IsTalk, Words.asked_of_four, Words.asked_of_two, Words.most_in, Words.number_in, Words.talk_by, Words.talk_of};
+ghost use Rattle.sim_edge.specs.{Talked.IsTalk, Words.asked_of_four, Words.asked_of_two, Words.most_in, Words.number_in, Words.talk_by, Words.talk_of};
 ghost use Rattle.sim_top.specs.Words.{words_of};
 
 use sim_live::RelayRules;

@@ -1,11 +1,11 @@
 -- A refusal is told, or a beginning of it, or it has no text.
-use Rattle.sim_talk_top.proofs.Refusing.{refused_memory, refused_part, refused_silent, refused_told}
-use Rattle.sim_talk_top.specs.Talked.{Refused}
+use Rattle.sim_edge.proofs.Refusing.{refused_memory, refused_part, refused_silent, refused_told}
+use Rattle.sim_edge.specs.Talked.{Refused}
 use Rattle.sim_top.specs.{Stops.status_of, Stops.stop_text, declared.status.Status.Status}
 use Rattle.std.proofs.{Common.◌≡◌, Common.◌<◌, Common.length, Common.[], Common.arith, Common.subst, Common.sym, Common.◌∙◌}
 use Rattle.std.proofs.lemmas.{Bool.eqb-true, Bool.Decides.nat_tests, List.nil_from_length}
-use Rattle.sim_talk_top.specs.declared.ending.Ending.TheVariants as ending
-use Rattle.sim_talk_top.proofs.talking.refused.Goals as goal
+use Rattle.sim_edge.specs.declared.ending.Ending.TheVariants as ending
+use Rattle.sim_edge.proofs.conversing.refused.Goals as goal
 
 pub returns-in_default-clause-refused : goal.returns-in_default-clause-refused
 returns-in_default-clause-refused g c = refused_memory (status_of c.args.stop.now) (stop_text c.args.stop.now) (g.T.Talk.history c.args.talk.now)

@@ -5,10 +5,11 @@ ghost use Rattle.sim_client.specs.StageWords.{AreCleared};
 ghost use Rattle.sim_top.specs.Stops.{CausesOf, status_of, stop_text as text_of_stop};
 ghost use Rattle.std.specs.Prelude.{◌≡◌, ◌≤◌, [], length, IfSome, IfOk, vec_capacity, All};
 ghost use Rattle.sim_talk.specs.Talks.{Tells};
-ghost use Rattle.sim_talk_top.specs.{Endings.ended_as, Words.talk_of};
-ghost use Rattle.sim_talk_top.specs.Talked.{IsRefusal, IsTalk, OfRelay, ReadsFor, Refused, ShelfCauses, TalkCauses, TalkedOver, TalksOf};
+ghost use Rattle.sim_edge.specs.{Endings.ended_as, Words.talk_of};
+ghost use Rattle.sim_edge.specs.Talked.{IsRefusal, IsTalk, OfRelay, ReadsFor, Refused, ShelfCauses, TalkCauses, TalkedOver, TalksOf};
 
-use crate::{Asked, Ending};
+use crate::asking::Asked;
+use crate::ending::Ending;
 use sim_base::Setup;
 use sim_live::{live, relay};
 use sim_orders::OrderTable;

@@ -1,11 +1,11 @@
 -- The match was read and the talk took place, or it says why not.
-use Rattle.{sim_talk_top.specs.Talked.OfRelay, sim_talk_top.specs.Talked.TalkedAs, std.specs.Prelude.IfSome, sim_talk_top.specs.Talked.ShelfCauses}
-use Rattle.{sim_talk_top.specs.Talked.TalksOf, sim_talk_top.specs.Words.Talk, sim_talk_top.specs.Words.talk_of, sim_top.specs.Outcome.session_match_in}
+use Rattle.{sim_edge.specs.Talked.OfRelay, sim_edge.specs.Talked.TalkedAs, std.specs.Prelude.IfSome, sim_edge.specs.Talked.ShelfCauses}
+use Rattle.{sim_edge.specs.Talked.TalksOf, sim_edge.specs.Words.Talk, sim_edge.specs.Words.talk_of, sim_top.specs.Outcome.session_match_in}
 use Rattle.sim_top.{proofs.Finishing.all_told, specs.Stops.status_of, specs.Stops.stop_text}
-use Rattle.sim_talk_top.proofs.{Counting.refused_causes, Counting.refused_shelf, Counting.talked_causes, Counting.talked_shelf}
-use Rattle.sim_talk_top.proofs.Refusing.{live_refused, live_talked, where_known}
+use Rattle.sim_edge.proofs.{Counting.refused_causes, Counting.refused_shelf, Counting.talked_causes, Counting.talked_shelf}
+use Rattle.sim_edge.proofs.Refusing.{live_refused, live_talked, where_known}
 use Rattle.std.proofs.Common.{ap, subst, sym}
-use Rattle.sim_talk_top.proofs.talking.converse.Goals as goal
+use Rattle.sim_edge.proofs.conversing.converse.Goals as goal
 
 pub returns-in-Ok-clause-talks : goal.returns-in-Ok-clause-talks
 returns-in-Ok-clause-talks g c =
