@@ -3,3 +3,10 @@ pub mod Numbers
 pub mod Telling
 pub mod Hex
 pub mod Digesting
+pub mod Rows
+pub mod Laws
+pub mod Lengths
+pub mod Sections
+pub mod Versions
+pub mod SectionLaws
+pub mod Walking

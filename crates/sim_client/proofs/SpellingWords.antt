@@ -9,5 +9,5 @@ pub use Rattle.sim_base.specs.Spelling.{attack_bytes, attack_part, clock_bytes, 
 pub use Rattle.sim_base.specs.Spelling.{moving_bytes, owner_bytes, owner_part, point_bytes, position_bytes, position_part, rows_with, section, sections}
 pub use Rattle.sim_base.specs.declared.{state.Motion.Motion, state.Row.Row, state.State.State}
 pub use Rattle.sim_bytes.specs.Numbers.{length-i32_bytes, length-u16_bytes, length-u32_bytes, length-u64_bytes}
-pub use Rattle.sim_sections.specs.{Lengths.length-moving_bytes, Rows.HasShortWay, Rows.IsShort}
+pub use Rattle.sim_bytes.specs.{Lengths.length-moving_bytes, Rows.HasShortWay, Rows.IsShort}
 unfoldable pub use Rattle.sim_base.specs.{Bytes.i32_bytes, Bytes.u16_bytes, Bytes.u32_bytes, Bytes.u64_bytes}

@@ -3,7 +3,7 @@
 
 ghost use Rattle.std.specs.Prelude.{◌≡◌, ◌^◌, ◌<◌, ◌↔◌, length, if◌then◌else◌, true, IfOk, IfSome, IsTrue, All};
 ghost use Rattle.sim_base.specs.{Spelling.is_full_turn as is_full, declared.setup.Setup.Setup as AnySetup};
-ghost use Rattle.{sim_client.specs.Kept.AreDigests, sim_sections.specs.Rows.HasShortWay};
+ghost use Rattle.{sim_client.specs.Kept.AreDigests, sim_bytes.specs.Rows.HasShortWay};
 
 use sim_base::{Items, Motion, OutOfMemory, Point, Points, Row, Rows, Setup, State};
 use sim_codec::{digest, is_full_turn, quick};

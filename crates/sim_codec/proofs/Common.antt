@@ -25,11 +25,11 @@ pub use Rattle.sim_codec.specs.Common.{attack_bytes, attack_part, Both, clock_by
 pub use Rattle.sim_codec.specs.Common.{old_spelling, One, owner_bytes, owner_part, Point, position_bytes, position_part, quick_bytes, Row, row_limit, row_of}
 pub use Rattle.sim_codec.specs.Common.{rows_with, section, Setup, spelling, stance_bytes, stance_part, State, Tells, Template, Two, Version, w16, w32, w64}
 pub use Rattle.sim_codec.specs.Versions.{CanSay, HoldsNone, sections_by, spelled_by, stances, start_bytes}
-pub use Rattle.sim_sections.specs.{SectionLaws.Back, SectionLaws.row_if_back, SectionLaws.section_back, Versions.has_stances, declared.walk.Parts.Parts}
-pub use Rattle.sim_sections.specs.{Sections.IsAhead, Walking.holds}
-pub use Rattle.sim_sections.specs.Laws.{attack_back, entity_back, health_back, moving_back, owner_back, position_back, stance_back}
-pub use Rattle.sim_sections.specs.Rows.{IsAttack, IsEntity, IsHealth, IsMotion, IsMoving, IsOwner, IsPoint, IsPosition, IsShort, IsStance}
+pub use Rattle.sim_bytes.specs.{SectionLaws.Back, SectionLaws.row_if_back, SectionLaws.section_back, Versions.has_stances, declared.walk.Parts.Parts}
+pub use Rattle.sim_bytes.specs.{Sections.IsAhead, Walking.holds}
+pub use Rattle.sim_bytes.specs.Laws.{attack_back, entity_back, health_back, moving_back, owner_back, position_back, stance_back}
+pub use Rattle.sim_bytes.specs.Rows.{IsAttack, IsEntity, IsHealth, IsMotion, IsMoving, IsOwner, IsPoint, IsPosition, IsShort, IsStance}
 unfoldable pub use Rattle.sim_codec.specs.{Loading.head_fault, Reading.row_at, Reading.rows_at, Reading.state_at}
 unfoldable pub use Rattle.sim_codec.specs.Common.{digest, parts_at, quick, sections_at, u32_bytes, u64_bytes}
-unfoldable pub use Rattle.sim_sections.specs.{Sections.row_if, Sections.section_at, Walking.stances_at}
-unfoldable pub use Rattle.sim_sections.specs.Rows.{attack_at, entity_at, health_at, moving_at, owner_at, position_at, stance_at}
+unfoldable pub use Rattle.sim_bytes.specs.{Sections.row_if, Sections.section_at, Walking.stances_at}
+unfoldable pub use Rattle.sim_bytes.specs.Rows.{attack_at, entity_at, health_at, moving_at, owner_at, position_at, stance_at}

@@ -7,10 +7,10 @@ pub use Rattle.sim_base.specs.Spelling.{rows_with, section, sections, six_sectio
 pub use Rattle.sim_base.specs.Validity.{Both, has_health, IsInside, IsKnownRow, IsState, IsValid, IsValidAim, IsValidMotion, IsValidRow}
 pub use Rattle.sim_base.specs.declared.{place.Point.Point, state.Motion.Motion, setup.Setup.Setup, state.Row.Row, state.State.State, template.Template.Template}
 pub use Rattle.sim_bytes.specs.{Reading.number_at, Telling.Tells}
-pub use Rattle.sim_sections.specs.{Rows.HasShortWay, Rows.point_in, Rows.with_id, Versions.has_stances, Versions.number_of, Walking.holds, Walking.row_of}
-pub use Rattle.sim_sections.specs.declared.{version.Version.Version, version.Version.TheVariants.One, version.Version.TheVariants.Two}
-pub use Rattle.sim_sections.specs.declared.walk.{Parts.Parts, Walk.Walk}
+pub use Rattle.sim_bytes.specs.{Rows.HasShortWay, Rows.point_in, Rows.with_id, Versions.has_stances, Versions.number_of, Walking.holds, Walking.row_of}
+pub use Rattle.sim_bytes.specs.declared.{version.Version.Version, version.Version.TheVariants.One, version.Version.TheVariants.Two}
+pub use Rattle.sim_bytes.specs.declared.walk.{Parts.Parts, Walk.Walk}
 unfoldable pub use Rattle.sim_base.specs.{Bytes.u32_bytes, Bytes.u64_bytes, Spelling.digest, Spelling.quick}
-unfoldable pub use Rattle.sim_sections.specs.Walking.{parts_at, sections_at}
-unfoldable pub use Rattle.sim_sections.specs.{Sections.row_if}
-unfoldable pub use Rattle.sim_sections.specs.Rows.{attack_at, entity_at, health_at, moving_at, owner_at, position_at, stance_at}
+unfoldable pub use Rattle.sim_bytes.specs.Walking.{parts_at, sections_at}
+unfoldable pub use Rattle.sim_bytes.specs.{Sections.row_if}
+unfoldable pub use Rattle.sim_bytes.specs.Rows.{attack_at, entity_at, health_at, moving_at, owner_at, position_at, stance_at}

@@ -6,9 +6,8 @@ ghost use Rattle.sim_codec.specs.{Bits.bits, Bits.clock_bits, Bits.row_bits, Com
 use crate::look_up::place_of;
 use crate::spelling::tell_clock;
 use sim_base::{Row, State};
-use sim_bytes::Buffer;
-use sim_sections::{
-    AttackRow, EntityRow, HealthRow, MotionRow, OwnerRow, PositionRow, RowForm, StanceRow,
+use sim_bytes::{
+    AttackRow, Buffer, EntityRow, HealthRow, MotionRow, OwnerRow, PositionRow, RowForm, StanceRow,
 };
 use std::marker::Model;
 

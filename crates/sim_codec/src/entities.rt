@@ -7,7 +7,7 @@ ghost use Rattle.sim_codec.specs.Entities.{id_in, lives_as, passes, template_in}
 
 use crate::part::PartForm;
 use sim_base::Template;
-use sim_sections::HealthRow;
+use sim_bytes::HealthRow;
 
 /// The id of an entity.
 pub fn id_of(entity: &[u8; 6]) -> u32

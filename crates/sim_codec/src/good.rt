@@ -11,7 +11,7 @@ use crate::validity::{
     are_inside, are_stored_inside, has_valid_health, is_id_below, is_inside_setup, is_valid_clock,
 };
 use sim_base::{Aim, Arms, Fixed, Point, Setup, Template};
-use sim_sections::{MotionRow, Parts};
+use sim_bytes::{MotionRow, Parts};
 
 // Whether all points of a way lie on the ground of the match. It has no more than it may have.
 fn has_inside_way(setup: &Setup, points: &[Point], stored: &[[u8; 8]]) -> bool

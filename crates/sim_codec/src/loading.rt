@@ -11,7 +11,7 @@ use crate::reading::state_of;
 use crate::same::is_spelled;
 use crate::stored::{Stored, stored_from};
 use sim_base::{Setup, State};
-use sim_sections::Version;
+use sim_bytes::Version;
 use std::alloc::Global;
 
 // The magic "RSIM" and the number of the version.

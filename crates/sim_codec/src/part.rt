@@ -7,10 +7,9 @@ ghost use Rattle.sim_bytes.specs.Reading.{Reader, Reads};
 ghost use Rattle.sim_codec.specs.{Common.Parts, Common.parts_at, Common.Row, Common.row_of, Common.Template, Common.Version, Common.Walk, Parts.IsLike};
 
 use sim_base::Template;
-use sim_bytes::{Short, Take};
-use sim_sections::{
-    AttackRow, EntityRow, HealthRow, MotionRow, OwnerRow, PositionRow, RowForm, StanceRow, Version,
-    Walk, take_if,
+use sim_bytes::{
+    AttackRow, EntityRow, HealthRow, MotionRow, OwnerRow, PositionRow, RowForm, Short, StanceRow,
+    Take, Version, Walk, take_if,
 };
 
 /// A row that is one of the parts of an entity.

@@ -5,7 +5,7 @@ ghost use Rattle.sim_codec.specs.Common.{point_in, row_of};
 
 use crate::stored::{Stored, StoredRows};
 use sim_base::{Items, Motion, OutOfMemory, Point, Row, Rows, State};
-use sim_sections::{MotionRow, Parts, point_of};
+use sim_bytes::{MotionRow, Parts, point_of};
 use std::alloc::{AllocError, Global};
 
 // The points of a way, in memory of their own.

@@ -6,8 +6,7 @@ ghost use Rattle.sim_codec.specs.Common.{HasShortWay, is_full_turn as is_full, m
 
 use crate::spelling::{digest, tell_clock};
 use sim_base::{Setup, State};
-use sim_bytes::{ByteSink, Digesting};
-use sim_sections::{PositionRow, tell_section};
+use sim_bytes::{ByteSink, Digesting, PositionRow, tell_section};
 
 /// At turns that are multiples of this number a report carries the whole digest.
 pub const FULL_EACH: u32 = 20;

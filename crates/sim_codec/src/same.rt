@@ -8,9 +8,9 @@ use crate::part::PartForm;
 use crate::spelling::{tell_clock, tell_head};
 use crate::stored::{Stored, StoredRows};
 use sim_base::Setup;
-use sim_bytes::{ByteSink, Comparing, tell_u8, tell_u32};
-use sim_sections::{
-    AttackRow, EntityRow, HealthRow, MotionRow, OwnerRow, PositionRow, StanceRow, Version,
+use sim_bytes::{
+    AttackRow, ByteSink, Comparing, EntityRow, HealthRow, MotionRow, OwnerRow, PositionRow,
+    StanceRow, Version, tell_u8, tell_u32,
 };
 
 fn tell_section<'a, K: ByteSink, R: PartForm<'a>>(

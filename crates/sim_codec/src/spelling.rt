@@ -5,10 +5,9 @@ ghost use Rattle.std.specs.Prelude.{◌≡◌, ◌^◌, ◌<◌, ◌++◌, lengt
 ghost use Rattle.sim_codec.specs.Common.{digest as digest_of, HasShortWay, number_of, sections, spelling, Tells, u32_bytes, u64_bytes};
 
 use sim_base::{OutOfMemory, Row, Setup, State};
-use sim_bytes::{ByteSink, Digesting, tell_u32, tell_u64};
-use sim_sections::{
-    AttackRow, EntityRow, HealthRow, MotionRow, OwnerRow, PositionRow, StanceRow, Version,
-    tell_section,
+use sim_bytes::{
+    AttackRow, ByteSink, Digesting, EntityRow, HealthRow, MotionRow, OwnerRow, PositionRow,
+    StanceRow, Version, tell_section, tell_u32, tell_u64,
 };
 use std::alloc::Global;
 

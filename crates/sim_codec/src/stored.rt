@@ -9,8 +9,7 @@ ghost use Rattle.sim_codec.specs.{Reading.rows_at, Reading.state_at, Taken.next_
 use crate::entities::{are_ascending, count, entities_in, id_of, is_living, template_of};
 use crate::part::PartForm;
 use sim_base::{MAX_ROWS, Setup, Template};
-use sim_bytes::{ByteSink, Short, Take};
-use sim_sections::{Parts, Version, Walk, locate, take_parts};
+use sim_bytes::{ByteSink, Parts, Short, Take, Version, Walk, locate, take_parts};
 use std::marker::Model;
 
 /// Rows that stand in the sections of a state. Contracts see them as the list of those that were not taken yet.

@@ -9,7 +9,7 @@ use crate::look_up::place_of;
 use sim_base::{
     Aim, Arms, Fixed, MAX_ROWS, MAX_WAYPOINTS, Motion, Point, Row, Setup, State, Template,
 };
-use sim_sections::point_of;
+use sim_bytes::point_of;
 
 fn is_within_cells(raw: i32, cells: u16) -> bool
     ensures { result ≡ is_within raw cells }

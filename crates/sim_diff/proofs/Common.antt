@@ -14,6 +14,6 @@ pub use Rattle.sim_codec.specs.declared.bits.Part.TheVariants.{Attack, Clock, En
 pub use Rattle.sim_diff.specs.{Difference.places, Merge.AreRowsOf, Merge.HaveSameFirst, Merge.next_id, Merge.rows_behind, declared.place.Place.Place}
 pub use Rattle.sim_diff.specs.Difference.{difference_in, entities, HaveSameBits, is_different, IsBefore, IsLeastDifference, key_of, number_of, parts, place_at}
 pub use Rattle.sim_laws.proofs.Members.{Has, Has-append_left, Has-append_right, Has-flat_map, Has-map, Has-of_flat_map, Has-of_map}
-pub use Rattle.{sim_base.proofs.RowPlaces.ids_rise, sim_sections.specs.Rows.with_id}
+pub use Rattle.{sim_base.proofs.RowPlaces.ids_rise, sim_bytes.specs.Rows.with_id}
 unfoldable pub use Rattle.sim_base.specs.Bytes.{i32_bytes, u16_bytes, u32_bytes, u64_bytes}
 unfoldable pub use Rattle.sim_diff.specs.Difference.{difference_of}

@@ -1,6 +1,6 @@
 //! The walk over the entities of two states: one pass over both lists of rows, which ascend by id.
 
-ghost use Rattle.{sim_diff.specs.Merge.AreRowsOf, sim_diff.specs.Merge.next_id, sim_diff.specs.Merge.rows_behind, sim_sections.specs.Rows.HasShortWay};
+ghost use Rattle.{sim_diff.specs.Merge.AreRowsOf, sim_diff.specs.Merge.next_id, sim_diff.specs.Merge.rows_behind, sim_bytes.specs.Rows.HasShortWay};
 ghost use Rattle.std.specs.{List.Sorted.IsStrictlyIncreasing, Prelude.◌≡◌, Prelude.◌↔◌, Prelude.map, Prelude.IfSome, Prelude.IsNone, Prelude.Some, Prelude.All};
 ghost use Rattle.sim_base.specs.Rows.{id_of};
 ghost use Rattle.sim_diff.specs.Difference.{difference_in, difference_of, HaveSameBits, IsLeastDifference};

@@ -1,7 +1,7 @@
 //! A part of an entity in two states, and the first part of one entity that differs. It stands apart from the walk over
 //! the entities, which knows nothing of parts.
 
-ghost use Rattle.{sim_base.specs.Rows.id_of, sim_sections.specs.Rows.HasShortWay};
+ghost use Rattle.{sim_base.specs.Rows.id_of, sim_bytes.specs.Rows.HasShortWay};
 ghost use Rattle.std.specs.{List.Sorted.IsStrictlyIncreasing, Prelude.◌≡◌, Prelude.map, Prelude.All};
 ghost use Rattle.sim_diff.specs.Difference.{difference_in, is_different as is_different_place, place_at};
 

@@ -1,6 +1,6 @@
 -- The words that the proofs here name again and again, passed on from one place. Declares nothing.
 pub use Rattle.{sim_bytes.specs.Reading.◌>>=◌, std.proofs.Math.Seq.drop-append-add, std.proofs.Math.Seq.drop-append_seam, std.proofs.Math.Seq.take-append_seam}
-pub use Rattle.{sim_sections.specs.Rows.IsPoint, sim_wire.specs.Fits.CommandFits, sim_wire.specs.Fits.IdsFit}
+pub use Rattle.{sim_bytes.specs.Rows.IsPoint, sim_wire.specs.Fits.CommandFits, sim_wire.specs.Fits.IdsFit}
 pub use Rattle.std.proofs.Common.{refl, add-zero, ap, arith, eq-eqb, inl, inr, rules, subst, sym, zero-add, ◌∙◌}
 pub use Rattle.std.proofs.Common.{◌∷◌, ◌++◌, map, length, take, drop, replicate, ℤ, pos, negsuc, neg_ℤ, ◌==◌, slice_index, Some, None, Ok, Err, Option, Result}
 pub use Rattle.std.proofs.Common.{◌≡◌, ℕ, zero, suc, ◌+◌, ◌-◌, ◌*◌, ◌/◌, ◌%◌, ◌^◌, ◌<◌, ◌≤◌, Bool, true, false, cond, not, ◌&&◌, eqb, ltb, leb, ◌≢◌, List, []}

@@ -1,7 +1,7 @@
 //! The lines of clients whose states differ. The bytes that each has there are not told, as they are where two stored
 //! states are compared.
 
-ghost use Rattle.{sim_base.specs.Rows.id_of, sim_sections.specs.Rows.HasShortWay};
+ghost use Rattle.{sim_base.specs.Rows.id_of, sim_bytes.specs.Rows.HasShortWay};
 ghost use Rattle.{sim_session.specs.Pairs.apart_line, sim_session.specs.Pairs.states_apart, std.specs.List.Sorted.IsStrictlyIncreasing};
 ghost use Rattle.std.specs.Prelude.{◌≡◌, ◌++◌, map, OnOk, OnErr, string_bytes, All};
 

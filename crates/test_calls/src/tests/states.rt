@@ -1,6 +1,6 @@
 //! Stored states of both versions: loaded, tested, spelled, digested and taken apart.
 
-ghost use Rattle.{sim_base.specs.Limits.IsSetup, sim_base.specs.Rows.id_of, sim_sections.specs.Rows.HasShortWay};
+ghost use Rattle.{sim_base.specs.Limits.IsSetup, sim_base.specs.Rows.id_of, sim_bytes.specs.Rows.HasShortWay};
 ghost use Rattle.std.specs.{List.Sorted.IsStrictlyIncreasing, Prelude.map, Prelude.IfOk, Prelude.All};
 
 use sim_base::{Aim, Fixed, Items, MAX_STATE, Motion, OutOfMemory, Point, Row, Setup, State};

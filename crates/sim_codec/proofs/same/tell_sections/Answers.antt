@@ -1,6 +1,6 @@
 -- Seven pieces, one behind the other.
 use Rattle.sim_codec.proofs.same.tell_sections.Goals as goal
-use Rattle.sim_sections.proofs.Ways.{first}
+use Rattle.sim_bytes.proofs.Ways.{first}
 
 pub returns : goal.returns
 returns g c =
