@@ -1,5 +1,5 @@
 -- Behind the last change none is left. One for which there was no memory ends it. No system was built.
-use Rattle.sim_board.proofs.Common.{ap, applied_all, sym, ◌∙◌}
+use Rattle.sim_board.proofs.Common.{ap, applied_all, length, sym, ◌∙◌}
 use Rattle.sim_board.proofs.Keeping.{kept_on}
 use Rattle.sim_board.proofs.follow.apply_all.Goals as goal
 use Rattle.std.proofs.lemmas.Result.{err_from_is_err_and}
@@ -21,7 +21,7 @@ pub returns : goal.returns
 returns g c =
     let all = c.loop-at.invariant in
     record {
-      state = sym (ap (applied_all c.args.board.now.setup.now c.loop-at.board.state) (drop_all c.loop-at.at c.loop-at.changes.items (omega arith)))
+      state = sym (ap (applied_all c.args.board.now.setup.now c.loop-at.board.state) (drop_all c.loop-at.at c.loop-at.changes.items (omega (arith, ap length c.into_items-changes.ensures))))
           ∙ all.applied;
       whole = all.whole;
       err = tt;
