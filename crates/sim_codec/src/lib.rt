@@ -4,7 +4,7 @@
 //! It promises that bytes are loaded exactly where they are a spelling of a valid state, and then as that state; so a
 //! valid state that is spelled and loaded is the same again, and two valid states of one match have two spellings.
 //! Whether bytes stand for a state is said without memory, and memory is taken only where they do.
-//! It stands on `sim_bytes` for the rows, and on `sim_bytes` for the numbers.
+//! It stands on `sim_bytes` for the rows and the numbers.
 //!
 //! The bytes, numbers with the lowest byte first:
 //!

@@ -5,7 +5,7 @@
 //! end of the input what it has come to; where it stopped, all lines but the last one are answered whole. So for each prefix of the
 //! steps that was read, the lines that were told are those of the defined session over that prefix, and the answers of the server are
 //! those of the defined one over all that has arrived, whatever bytes the clients sent. It stands on `sim_talk` for what is heard and
-//! told, on `sim_session` and `sim_server`, on `sim_lists` for the reading of a step and of an arrival, and on `sim_session` and
+//! told, on `sim_session` and `sim_server` for what is done, on `sim_lists` for the reading of a step and of an arrival, and on
 //! `sim_report` for what is printed.
 //!
 //! - `look`, `line`: what only looks, and what a line asks for.
