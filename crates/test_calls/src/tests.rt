@@ -2,7 +2,6 @@
 
 mod bytes;
 mod files;
-mod held;
 mod messages;
 mod numbers;
 mod records;
