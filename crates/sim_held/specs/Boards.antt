@@ -2,7 +2,7 @@
 use Rattle.std.specs.Prelude.{◌≡◌, ℕ, ◌<◌, ◌≤◌, List, All}
 use Rattle.sim_base.specs.{Limits.IsSetup, Validity.IsValid, declared.command.PlayerCommand.PlayerCommand}
 use Rattle.sim_base.specs.declared.{setup.Setup.Setup, state.State.State}
-use Rattle.{sim_client.specs.declared.stage.Seat.Seat, sim_laws.specs.CommandLaws.IsOrderOf}
+use Rattle.{sim_laws.specs.CommandLaws.IsOrderOf}
 use Rattle.sim_held.specs.{Clients.IsSeated, Playing.life_of, Runs.Run, Turns.RanOn, declared.playing.Playing.Playing}
 
 -- a match has a turn behind a state of it, and players of it gave these commands

@@ -17,7 +17,7 @@ returns c =
       other = λ no.
           let it = came.ensures.other no in
           let stays = subst (λ answer. OnOk answer ((life_at settled.new.stage ≡ life_at came.new.stage) × (settled.new.outbox ≡ came.new.outbox))) it.0
-              settled.ensures.ok in
+          settled.ensures.ok in
           (settled.ensures.same ∙ it.0, (stays.0 ∙ it.1.0, stays.1 ∙ it.1.1));
       sure = λ down is none. subst IsOk (sym settled.ensures.same) (came.ensures.sure down is none);
       idle = λ down is carries loads none. subst IsOk (sym settled.ensures.same) (came.ensures.idle down is carries loads none);
