@@ -1,50 +1,8 @@
--- What a call makes of the client that a handle holds: that of the library's call of its name.
-use Rattle.std.specs.Prelude.{◌≡◌, ℕ, ◌==◌, List, [], length, ℤ, if◌then◌else◌, nat_le, false, None, Ok, IsOk, Option, Result, option_map}
-use Rattle.std.specs.Str.{is_utf8}
-use Rattle.sim_base.specs.declared.{memory.OutOfMemory.OutOfMemory, state.State.State}
-use Rattle.{sim_c.specs.Gives.put_in, sim_c.specs.Gives.room_status, sim_c.specs.declared.standing.Standing.Standing}
-use Rattle.sim_client.specs.ClientWords.{LoadsFrom, may_load, NeedsNoMemory}
-use Rattle.sim_client.specs.Lives.{hears, joins, Joining, Life, Off, On, orders, plays, Told}
-use Rattle.sim_held.specs.Acting.{may_run}
-use Rattle.sim_held.specs.Clients.{ClientView, command_in, IsSame, life, Stays, Steps, Takes}
-use Rattle.sim_held.specs.{Runs.Ran, Runs.runs, declared.stage.Went.Went}
-use Rattle.sim_held.specs.declared.stage.Went.TheVariants as went
-use Rattle.sim_wire.specs.{Fits.IsDownFrame, Memory.down_carries}
-
--- it wishes to join
-pub record Joins (old : ClientView) (answer : Result Went OutOfMemory) (new : ClientView) : Type 0 where
-  pub steps : Steps (joins (life old)) (life old) old.outbox answer (life new) new.outbox
-  pub idle : joins (life old) ≡ None → answer ≡ Ok went.Idle
-  pub same : IsSame old new
-
--- it gives the command that bytes spell
-pub record Orders (bytes : List ℕ) (old : ClientView) (answer : Result Went OutOfMemory) (new : ClientView) : Type 0 where
-  pub takes : Takes (option_map (λ given. orders old.setup given (life old)) (command_in bytes)) (life old) old.outbox answer (life new) new.outbox
-  pub no_text : is_utf8 bytes ≡ false → answer ≡ Ok went.Refused
-  pub same : IsSame old new
-
--- it hears the frame of a message, or bytes that are none
-pub record HearsFrame (bytes : List ℕ) (old : ClientView) (answer : Result Went OutOfMemory) (new : ClientView) : Type 0 where
-  pub frame : (down : Told) → IsDownFrame bytes down → (loaded : Option State) → LoadsFrom old.setup down loaded
-      → Steps (hears old.setup loaded down (life old)) (life old) old.outbox answer (life new) new.outbox
-  pub other : ((down : Told) → IsDownFrame bytes down → ⊥) → (answer ≡ Ok went.Refused) × Stays (life old) old.outbox (life new) new.outbox
-  pub sure : (down : Told) → IsDownFrame bytes down → NeedsNoMemory (life old) down → IsOk answer
-  pub idle : (down : Told) → IsDownFrame bytes down → down_carries down ≡ false → may_load (life old) down ≡ false
-      → hears old.setup None down (life old) ≡ None → IsOk answer
-  pub same : IsSame old new
-
--- it plays turns that are released
-pub record Plays (most : ℕ) (old : ClientView) (answer : Result ℕ OutOfMemory) (new : ClientView) : Type 0 where
-  pub ran : Ran (runs old.setup most (life old)) old.outbox answer (life new) new.outbox
-  pub none : may_run old.setup (life old) ≡ false → answer ≡ Ok 0
-  pub zero : most ≡ 0 → answer ≡ Ok 0
-  pub same : IsSame old new
-
--- it is cut off
-pub record IsCutOff (old new : ClientView) : Type 0 where
-  pub off : life new ≡ Off
-  pub empty : new.outbox ≡ []
-  pub same : IsSame old new
+-- What a call makes of the client that a handle holds, beside what the calls of `sim_held` say.
+use Rattle.std.specs.Prelude.{◌≡◌, ℕ, List, [], length, if◌then◌else◌, nat_le}
+use Rattle.sim_c.specs.declared.standing.Standing.{Standing}
+use Rattle.sim_client.specs.Lives.{Joining, Life, Off, On}
+use Rattle.sim_held.specs.Clients.{ClientView, IsSame, life}
 
 -- what waits is put into a room and let go, where the room is large enough
 pub record LetsGo (room : List ℕ) (old new : ClientView) : Type 0 where

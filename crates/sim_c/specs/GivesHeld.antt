@@ -1,7 +1,7 @@
 -- How what a call of something held came to is put where C wants it. What is not named is as it was.
 use Rattle.std.specs.Prelude.{◌≡◌, ℕ, List, length, ℤ, pos, if◌then◌else◌, ◌==◌, Some, None, Ok, Err, Option, Result}
 use Rattle.sim_base.specs.declared.memory.OutOfMemory.{OutOfMemory}
-use Rattle.sim_c.specs.{Gives.digest_with, Gives.put_in, Gives.room_status, Gives.stamp}
+use Rattle.sim_c.specs.{Gives.digest_with, Gives.put_in, Gives.room_status}
 use Rattle.sim_embed.specs.declared.stored.{Stamp.Stamp, Stored.Stored}
 
 -- how many turns were played is written, if any were

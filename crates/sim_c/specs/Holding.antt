@@ -2,8 +2,8 @@
 use Rattle.std.specs.Prelude.{◌≡◌, Bool, true, false, ℤ, pos, Ok, Err, IfOk, Some, None, Option, Result}
 use Rattle.sim_base.specs.declared.{memory.OutOfMemory.OutOfMemory, setup.Setup.Setup, state.State.State}
 use Rattle.sim_c.specs.{Status.fault_of, Status.status_of, declared.status.Fault.Fault}
-use Rattle.{sim_client.specs.ClientWords.state_of, sim_embed.specs.declared.refused.Refused.Refused, sim_held.specs.declared.held.Held.Held}
-use Rattle.sim_held.specs.{Clients.ClientView, Clients.life, Clients.LooksAt, Games.GameView, Servers.ServerView}
+use Rattle.{sim_embed.specs.declared.refused.Refused.Refused, sim_held.specs.declared.held.Held.Held}
+use Rattle.sim_held.specs.{Calls.LooksAtClient, Clients.ClientView, Clients.LooksAt, Games.GameView, Servers.ServerView}
 use Rattle.sim_held.specs.declared.held.Held.TheVariants as held
 
 -- there is an answer of which one thing holds, and it is put so
@@ -37,11 +37,6 @@ OfGame Makes Bad None after = (after ≡ None) × Bad
 abbrev pub there_is : {X : Type 0} → Result X OutOfMemory → Result (Option X) OutOfMemory
 there_is (Ok x) = Ok (Some x)
 there_is (Err e) = Err e
-
--- what a look at a client answers: this holds of it, and that there is no state is said where there is none, for which no memory is wanted
-pub record LooksAtClient {X : Type 0} (Is : Setup → State → X → Type 0) (client : ClientView) (answer : Result (Option X) OutOfMemory) : Type 0 where
-  pub looks : IfOk answer (LooksAt (state_of (life client)) (Is client.setup))
-  pub none : state_of (life client) ≡ None → answer ≡ Ok None
 
 -- a look at the state of a match, or of a client that is on: there is an answer of which this holds, and it is put so; else this is all
 abbrev pub Looks : {X : Type 0} → (Setup → State → X → Type 0) → (Result (Option X) OutOfMemory → Type 0) → Type 0 → Option Held → Type 0

@@ -7,4 +7,3 @@ pub mod Holding
 pub mod GivesHeld
 pub mod Clients
 pub mod Servers
-pub mod Games

@@ -3,7 +3,8 @@
 ghost use Rattle.std.specs.Prelude.{◌≡◌, ◌==◌, not, pos, length, IfOk, IfErr, option_map};
 ghost use Rattle.{sim_embed.specs.Bytes.OfMatch, sim_embed.specs.Causes.IsNoMatch, sim_held.specs.Clients.IsNew, sim_held.specs.Clients.life};
 ghost use Rattle.sim_c.specs.{Gives.Answers, Gives.put_in, Gives.room_status, GivesHeld.GivesPlayed, Status.went_status};
-ghost use Rattle.sim_c.specs.Clients.{HearsFrame, IsCutOff, Joins, LetsGo, Orders, Plays, standing_of};
+ghost use Rattle.sim_c.specs.Clients.{LetsGo, standing_of};
+ghost use Rattle.sim_held.specs.Calls.{HearsFrame, IsCutOff, Joins, Orders, Plays};
 ghost use Rattle.sim_c.specs.Holding.{Comes, IsClient, OfClient, Opens};
 
 use crate::Fault;

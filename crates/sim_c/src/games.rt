@@ -3,7 +3,8 @@
 ghost use Rattle.std.specs.Prelude.{◌≡◌, pos, IfOk, IfErr, option_map};
 ghost use Rattle.sim_base.specs.Turn.{first_state};
 ghost use Rattle.sim_embed.specs.{Bytes.OfMatch, Bytes.OfState, Causes.IsNoMatch, Causes.IsNoStateOf};
-ghost use Rattle.sim_c.specs.{Gives.Answers, Gives.GivesValue, GivesHeld.GivesPlayed, Games.PlaysGame, Games.PlaysOwnTurns};
+ghost use Rattle.sim_c.specs.{Gives.Answers, Gives.GivesValue, GivesHeld.GivesPlayed};
+ghost use Rattle.sim_held.specs.Games.{PlaysGame, PlaysOwnTurns};
 ghost use Rattle.sim_c.specs.Holding.{Comes, IsGame, OfGame, Opens};
 
 use crate::Fault;

@@ -1,10 +1,10 @@
 //! Looks at the state to which a game, or a client that is on, has come. Nothing that is held changes.
 
 ghost use Rattle.{sim_embed.specs.Facts.entity_of, sim_report.specs.Show.show_text};
-ghost use Rattle.sim_held.specs.Clients.{LooksAt};
+ghost use Rattle.sim_held.specs.{Calls.LooksAtClient, Clients.LooksAt};
 ghost use Rattle.std.specs.Prelude.{◌≡◌, map, pos, IfOk, Some};
 ghost use Rattle.sim_c.specs.{Gives.stamp, GivesHeld.GivesLook, GivesHeld.GivesSheet, GivesHeld.GivesStamp, GivesHeld.sheet};
-ghost use Rattle.sim_c.specs.Holding.{Comes, Looks, LooksAtClient, there_is};
+ghost use Rattle.sim_c.specs.Holding.{Comes, Looks, there_is};
 ghost use Rattle.sim_embed.specs.Answers.{IsStamp, IsStored};
 
 use crate::giving_held::{give_held_stamp, give_items, give_shown, give_state};

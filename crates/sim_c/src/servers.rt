@@ -3,8 +3,8 @@
 ghost use Rattle.std.specs.Prelude.{◌≡◌, ◌⊎◌, pos, IfOk, IfErr, option_map};
 ghost use Rattle.{sim_embed.specs.Bytes.OfMatch, sim_embed.specs.Causes.IsNoMatch, sim_server.specs.Standing.server_of};
 ghost use Rattle.sim_c.specs.{Gives.Answers as IsAnswered, Holding.Comes, Holding.IsServer, Holding.OfServer, Holding.Opens, Status.went_status};
-ghost use Rattle.sim_c.specs.Servers.{count_of as count_by, HearsFrame, IsCut, number_of as number_by, Sends, SendsNothing};
-ghost use Rattle.sim_held.specs.Servers.{IsServerOf};
+ghost use Rattle.sim_c.specs.Servers.{count_of as count_by, number_of as number_by, Sends, SendsNothing};
+ghost use Rattle.sim_held.specs.Servers.{HasLost, HearsFrame, IsServerOf};
 
 use crate::Fault;
 use crate::giving::fill;
@@ -80,7 +80,7 @@ fn hear(server: &mut HeldServer, from: u8, frame: &[u8]) -> i32
 #[unsafe(no_mangle)]
 pub extern "C" fn simcore_server_cut(alloc: Global, handle: &mut Handle, client: u32) -> i32
     ensures { let number = number_by client in OfServer (λ old new.
-        Comes (λ answer. IsCut number old answer new) (λ answer. result ≡ went_status (pos 103) answer))
+        Comes (λ answer. HasLost number old answer new) (λ answer. result ≡ went_status (pos 103) answer))
         (result ≡ pos 101) handle.old.held handle.new.held }
 {
     with_held!(alloc, handle; Held::Server(server) => give_went(server.cut(number_of(client)), FRAME_REFUSED))

@@ -1,5 +1,5 @@
 -- What a client hears without memory.
-use Rattle.sim_base.specs.declared.{setup.Setup.Setup, state.State.State}
+use Rattle.sim_base.specs.declared.setup.Setup.{Setup}
 use Rattle.sim_client.specs.{ClientWords.Answers, ClientWords.NeedsNoMemory, declared.did.Did.Did, declared.did.Did.TheVariants.Done, declared.did.Did.TheVariants.Idle}
 use Rattle.sim_client.specs.LifeLaws.{says_of}
 use Rattle.{sim_client.specs.Lives.Told, sim_held.specs.Acting.said_by, sim_held.specs.Hearing.brings_state}

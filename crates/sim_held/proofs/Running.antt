@@ -1,12 +1,10 @@
 -- Turns that a client plays one behind another.
 use Rattle.sim_base.specs.declared.setup.Setup.{Setup}
-use Rattle.{sim_client.specs.ClientWords.Answers}
 use Rattle.sim_held.proofs.Common.{◌≡◌, ℕ, zero, suc, ◌+◌, ◌≤◌, ◌⊎◌, Bool, true, false, List, ◌++◌, if◌then◌else◌, Some, None, Ok, Option, refl, ap, append_assoc, arith}
 use Rattle.sim_held.proofs.Common.{Act, append-nil, cases_eq, flat_map-append, frames_of, inl, inr, Life, plays, subst, sym, up_frame, ◌∙◌}
 use Rattle.{sim_client.specs.Lives.On, sim_client.specs.Lives.Off, sim_client.specs.Lives.Joining, sim_client.specs.Lives.played, sim_client.specs.Lives.told}
 use Rattle.sim_held.specs.{Acting.may_run, Runs.goes_on, Runs.Ran, Runs.Run, Runs.runs, Turns.PlaysOnce, Turns.RanOn}
 use Rattle.std.proofs.lemmas.Bool.{false≢true}
-use Rattle.sim_client.specs.declared.did.Did.TheVariants as did
 
 -- where there is no next turn, a longer run is the same
 pub runs_rest : (setup : Setup) (n : ℕ) (life : Life) → plays setup (runs setup n life).life ≡ None → (m : ℕ) → n ≤ m → runs setup m life ≡ runs setup n life
@@ -39,16 +37,6 @@ no_run setup life out most none =
 -- what a run has come to, as a call answers it
 pub ran : (run : Run) (out : List ℕ) (turns : ℕ) (life : Life) (out' : List ℕ) → RanOn run out turns life out' → Ran run out (Ok turns) life out'
 ran run out turns life out' on = (on.many, on.becomes, on.adds)
-
--- a turn that is told, or none
-pub idle_once : (act : Option Act) (old new : Life) (out : List ℕ) → Answers act old (Ok did.Idle) new → PlaysOnce act old out false new out
-idle_once None old new out h = (refl, (h, refl))
-idle_once (Some act) old new out h = absurd h
-
-pub done_once : (act : Option Act) (old new : Life) (out out' : List ℕ) (ups : _) → Answers act old (Ok (did.Done ups)) new → out' ≡ out ++ frames_of ups
-    → PlaysOnce act old out true new out'
-done_once None old new out out' ups h is = absurd h
-done_once (Some act) old new out out' ups h is = (refl, (h.0, is ∙ ap (λ s. out ++ frames_of s) h.1))
 
 module _ (setup : Setup) (n : ℕ) (life : Life) (out : List ℕ) (old new : Life) (o o' : List ℕ) (ran : RanOn (runs setup n life) out n old o) where
   abbrev run : Run

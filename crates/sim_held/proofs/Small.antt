@@ -2,10 +2,10 @@
 use Rattle.sim_base.specs.{declared.command.Command.Command, declared.setup.Setup.Setup, Limits.HasFewIds, Limits.IsSetup, Spelling.spelling, Validity.IsValid}
 use Rattle.std.specs.Prelude.{◌&&◌, nat_lt}
 use Rattle.sim_client.specs.{ClientWords.Answers, declared.did.Did.Did, declared.did.Did.TheVariants.Done, declared.did.Did.TheVariants.Idle, Lives.Told}
-use Rattle.sim_client.{proofs.Small.orders_small, proofs.Small.plays_small, proofs.Spelled.states_are_short, specs.LifeLaws.says_of}
+use Rattle.sim_client.{proofs.Small.orders_small, proofs.Spelled.states_are_short, specs.LifeLaws.says_of}
 use Rattle.{sim_plain.specs.Functions.put, sim_plain_session.specs.Pasts.is_client, sim_plain_session.specs.Players.Player, sim_held.specs.Acting.said_by}
 use Rattle.sim_held.proofs.Common.{Bool, true, false, [], ◌∷◌, ◌++◌, Some, None, Ok, Option, All, All-cons, All-nil, if◌then◌else◌, subst, sym}
-use Rattle.sim_held.proofs.Common.{Act, hears, IsSmallUp, Life, On, orders, plays}
+use Rattle.sim_held.proofs.Common.{Act, hears, IsSmallUp, Life, On, orders}
 use Rattle.sim_plain.specs.declared.message.DownOf.TheVariants as down
 use Rattle.sim_plain.specs.declared.message.UpOf.TheVariants as up
 
@@ -42,9 +42,6 @@ said_small (Some act) old (Done ups) new h small = subst (All IsSmallUp) (sym h.
 pub order_small : (setup : Setup) (command : Command) (old : Life) (did : Did) (new : Life) → HasFewIds command → Answers (orders setup command old) old
     (Ok did) new → All IsSmallUp (said_by did)
 order_small setup command old did new few answers = said_small (orders setup command old) old did new answers (orders_small setup command old few)
-
-pub play_small : (setup : Setup) (old : Life) (did : Did) (new : Life) → Answers (plays setup old) old (Ok did) new → All IsSmallUp (said_by did)
-play_small setup old did new answers = said_small (plays setup old) old did new answers (plays_small setup old)
 
 pub hear_small : (setup : Setup) (said : Told) (player : Player) (did : Did) (new : Life) → IsSetup setup → IsValid setup player.state
     → Answers (hears setup None said (On player)) (On player) (Ok did) new → All IsSmallUp (said_by did)

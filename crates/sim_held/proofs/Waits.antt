@@ -1,9 +1,8 @@
 -- What waits for each client of a server, as lists of posts come and go.
 use Rattle.std.proofs.{Common.◌==◌, lemmas.List.Elements.All-filter}
-use Rattle.sim_held.proofs.Common.{not, ◌≡◌, ℕ, zero, suc, ◌<◌, Bool, true, false, ◌⊎◌, List, [], ◌∷◌, ◌++◌, map, if◌then◌else◌, All, ap, arith, All-append, All-cons, All-nil}
-use Rattle.sim_held.proofs.Common.{All-head, All-tail, cases_eq, cond-false, cond-true, DownOf, eq-eqb, filter, flat_map-append, flat_map-cons, inl, inr, IsSmallDown}
+use Rattle.sim_held.proofs.Common.{not, ◌≡◌, ℕ, zero, suc, ◌<◌, Bool, true, false, ◌⊎◌, List, [], ◌∷◌, ◌++◌, map, if◌then◌else◌, All, ap, arith, All-cons, All-nil}
+use Rattle.sim_held.proofs.Common.{All-head, All-tail, cases_eq, cond-false, cond-true, DownOf, eq-eqb, filter, flat_map-cons, inl, inr, IsSmallDown}
 use Rattle.sim_held.proofs.Common.{get_or, length, ne_eqb, PostOf, refl, subst, sym, told_to, ◌∙◌}
-use Rattle.sim_held.proofs.Frames.{flat_map_one}
 use Rattle.sim_held.specs.Servers.{AreSmall, has_some, waiting}
 
 abbrev Post : Type 0
@@ -61,10 +60,6 @@ full_waits d ((x ∷ more) ∷ xs) =
     flat_map-cons (told_to d) (x ∷ more) (filter has_some xs) ∙ ap (λ l. told_to d (x ∷ more) ++ l) (full_waits d xs)
     ∙ sym (flat_map-cons (told_to d) (x ∷ more) xs)
 
--- one list more
-pub more_waits : (d : ℕ) (said : List (List Post)) (posts : List Post) → waiting (said ++ posts ∷ []) d ≡ waiting said d ++ told_to d posts
-more_waits d said posts = flat_map-append (told_to d) said (posts ∷ []) ∙ ap (λ l. waiting said d ++ l) (flat_map_one (told_to d) posts)
-
 -- what stays has frames
 pub others_small : (c : ℕ) (said : List (List Post)) → AreSmall said → AreSmall (map (others c) said)
 others_small c [] small = All-nil _
@@ -75,11 +70,6 @@ others_small c (x ∷ xs) small =
 
 pub full_small : (said : List (List Post)) → AreSmall said → AreSmall (filter has_some said)
 full_small said small = All-filter has_some (All (λ (post : Post). IsSmallDown post.down)) said small
-
-pub more_small : (said : List (List Post)) (posts : List Post) → AreSmall said → All (λ (post : Post). IsSmallDown post.down) posts
-    → AreSmall (said ++ posts ∷ [])
-more_small said posts small fits = All-append (All (λ (post : Post). IsSmallDown post.down)) said (posts ∷ []) small
-    (All-cons (All (λ (post : Post). IsSmallDown post.down)) posts [] fits (All-nil (All (λ (post : Post). IsSmallDown post.down))))
 
 -- ---- who is told nothing
 

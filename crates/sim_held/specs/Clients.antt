@@ -39,6 +39,11 @@ IsStage setup stage.Off = Unit {0}
 IsStage setup stage.Joining = Unit {0}
 IsStage setup (stage.On state seat) = IsSeated setup state seat
 
+-- the match is within its limits, and the stage is sound
+pub record IsPlaced (setup : Setup) (at : Stage) : Type 0 where
+  pub limits : IsSetup setup
+  pub stage : IsStage setup at
+
 -- the match is within its limits, the number is a player's, and the stage is sound
 pub record IsSound (setup : Setup) (number : ℕ) (at : Stage) : Type 0 where
   pub limits : IsSetup setup

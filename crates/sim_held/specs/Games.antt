@@ -1,5 +1,6 @@
 -- A match that is held in memory, and what a call makes of it.
-use Rattle.std.specs.{Str.is_utf8, Prelude.◌≡◌, Prelude.ℕ, Prelude.◌-◌, Prelude.◌<◌, Prelude.◌≤◌, Prelude.min, Prelude.true, Prelude.List, Prelude.Ok, Prelude.Err, Prelude.Result}
+use Rattle.std.specs.{Str.is_utf8, Prelude.◌≡◌, Prelude.ℕ, Prelude.◌-◌, Prelude.◌<◌, Prelude.◌≤◌, Prelude.min, Prelude.true, Prelude.false, Prelude.List}
+use Rattle.std.specs.Prelude.{Ok, Err, IfErr, OnErr, OnOk, Result}
 use Rattle.sim_base.specs.{Limits.IsSetup, Turn.from, Turn.own_turns, Turn.turn, Validity.IsValid, declared.command.PlayerCommand.PlayerCommand}
 use Rattle.sim_base.specs.declared.{memory.OutOfMemory.OutOfMemory, setup.Setup.Setup, state.State.State}
 use Rattle.sim_embed.specs.{Orders.orders_of, declared.refused.Refused.Refused}
@@ -35,6 +36,14 @@ IsNoTurnOf old bytes cause.Over = old.setup.turns ≤ old.state.turn
 IsNoTurnOf old bytes (cause.Commands index) = (old.state.turn < old.setup.turns) × (orders_of old.setup.players bytes ≡ Err index)
 IsNoTurnOf old bytes cause.OutOfMemory = (old.state.turn < old.setup.turns) × (is_utf8 bytes ≡ true)
 
+-- a match plays a turn with the commands that bytes spell, or says why there is none and is as it was
+pub record PlaysGame (bytes : List ℕ) (old : GameView) (answer : Result (Unit {0}) Refused) (new : GameView) : Type 0 where
+  pub plays : OnOk answer (PlaysTurn old bytes new)
+  pub err : OnErr answer (new ≡ old)
+  pub refused : IfErr answer (IsNoTurnOf old bytes)
+  pub over : old.setup.turns ≤ old.state.turn → answer ≡ Err cause.Over
+  pub no_text : old.state.turn < old.setup.turns → is_utf8 bytes ≡ false → answer ≡ Err (cause.Commands 0)
+
 -- how many of so many turns the match still has
 abbrev pub turns_left : GameView → ℕ → ℕ
 turns_left game most = min most (game.setup.turns - game.state.turn)
@@ -47,3 +56,8 @@ after_own game turns = at_state game (from game.setup game.state (own_turns game
 abbrev pub PlaysOwn : GameView → ℕ → Result ℕ OutOfMemory → GameView → Type 0
 PlaysOwn old most (Ok turns) new = (turns ≡ turns_left old most) × (new ≡ after_own old (turns_left old most))
 PlaysOwn old most (Err e) new = new ≡ old
+
+-- a match plays turns of its own
+pub record PlaysOwnTurns (most : ℕ) (old : GameView) (answer : Result ℕ OutOfMemory) (new : GameView) : Type 0 where
+  pub plays : PlaysOwn old most answer new
+  pub none : turns_left old most ≡ 0 → answer ≡ Ok 0

@@ -4,9 +4,11 @@ use Rattle.std.specs.Prelude.{◌∷◌, ◌++◌, if◌then◌else◌, nat_lt, 
 use Rattle.sim_base.specs.declared.{memory.OutOfMemory.OutOfMemory, setup.Setup.Setup}
 use Rattle.sim_pipes.specs.Posts.{told_to}
 use Rattle.sim_held.specs.declared.stage.Went.{TheVariants.Idle, Went}
-use Rattle.sim_plain.specs.{Messages.Arrival, Messages.Cut, Posts.posts, Server.heard, declared.message.DownOf.DownOf, declared.message.PostOf.PostOf}
+use Rattle.sim_held.specs.declared.stage.Went.TheVariants as went
+use Rattle.sim_plain.specs.{Messages.Arrival, Messages.Cut, Messages.Heard, Posts.posts, Server.heard}
+use Rattle.sim_plain.specs.declared.message.{DownOf.DownOf, PostOf.PostOf, UpOf.UpOf}
 use Rattle.sim_server.specs.{Small.IsSmallServer, Standing.server_of, Standing.StandsFor, Standing.View}
-use Rattle.sim_wire.specs.{Fits.IsSmallDown, Frames.down_frame}
+use Rattle.sim_wire.specs.{Fits.IsSmallDown, Fits.IsUpFrame, Frames.down_frame}
 
 -- the server, and what it has said to clients that have not taken it yet: one list for each arrival, the oldest first
 pub record ServerView : Type 0 where
@@ -74,6 +76,17 @@ abbrev pub Answers : Bool → Went → (ServerView → ServerView → Type 0) �
 Answers true went Changes old (Ok answer) new = (answer ≡ went) × Changes old new
 Answers false went Changes old (Ok answer) new = (answer ≡ Idle) × Stays old new
 Answers there went Changes old (Err e) new = Stays old new
+
+-- a server hears the frame of a message, or bytes that are none, for which it cuts the client off
+pub record HearsFrame (from : ℕ) (bytes : List ℕ) (old : ServerView) (answer : Result Went OutOfMemory) (new : ServerView) : Type 0 where
+  pub frame : (message : UpOf (List ℕ)) → IsUpFrame bytes message → Answers (is_client old.server from) went.Done (Hears (Heard from message)) old answer new
+  pub other : ((message : UpOf (List ℕ)) → IsUpFrame bytes message → ⊥) → Answers (is_client old.server from) went.Refused (CutsOff from) old answer new
+  pub nobody : is_client old.server from ≡ false → answer ≡ Ok went.Idle
+
+-- the connection of a client has ended
+pub record HasLost (client : ℕ) (old : ServerView) (answer : Result Went OutOfMemory) (new : ServerView) : Type 0 where
+  pub cuts : Answers (is_client old.server client) went.Done (CutsOff client) old answer new
+  pub nobody : is_client old.server client ≡ false → answer ≡ Ok went.Idle
 
 -- what waits for one client is taken, and what waits for others is as it was
 pub record Leaves (c : ℕ) (old new : ServerView) : Type 0 where

@@ -1,11 +1,11 @@
 //! The steps of a client that is held: over its stage, its outbox and its match. What they leave after want of memory is cut off by
 //! their caller.
 
-ghost use Rattle.{sim_base.specs.Limits.HasFewIds, sim_base.specs.Limits.IsSetup, sim_base.specs.declared.setup.Setup.Setup as AnySetup};
+ghost use Rattle.{sim_base.specs.Limits.HasFewIds, sim_base.specs.declared.setup.Setup.Setup as AnySetup};
 ghost use Rattle.sim_client.specs.ClientWords.{Answers};
 ghost use Rattle.std.specs.Prelude.{◌≡◌, [], All, IsOk, OnErr, OnOk, Ok, None, Option};
 ghost use Rattle.sim_client.specs.Lives.{Act, joins, Life, Off, On, orders};
-ghost use Rattle.sim_held.specs.Clients.{Goes, IsStage, life_at};
+ghost use Rattle.sim_held.specs.Clients.{Goes, IsPlaced, IsStage, life_at};
 ghost use Rattle.sim_held.specs.Acting.{said_by};
 ghost use Rattle.sim_wire.specs.Fits.{IsSmallUp};
 
@@ -53,9 +53,8 @@ pub fn give(
     outbox: &mut Outbox,
     command: &Command,
 ) -> Result<Went, OutOfMemory>
-    requires limits { IsSetup setup.now }
     requires few { HasFewIds command.now }
-    requires sound { IsStage setup.now stage.old }
+    requires sound { IsPlaced setup.now stage.old }
     ensures goes { Goes (orders setup.now command.now (life_at stage.old)) (life_at stage.old) outbox.old result (life_at stage.new) outbox.new }
     ensures sound { OnOk result (IsStage setup.now stage.new) }
 {

@@ -4,8 +4,9 @@
 
 ghost use Rattle.{sim_base.specs.Limits.IsSetup, sim_base.specs.Turn.first_state as first_state_of, sim_base.specs.Turn.from, sim_base.specs.Turn.own_turns};
 ghost use Rattle.{sim_base.specs.Turn.turn as turn_by, sim_base.specs.Validity.IsValid, sim_board.specs.BoardWords.setup_in, sim_board.specs.BoardWords.systems};
-ghost use Rattle.{sim_laws.specs.CommandLaws.IsOrderOf, sim_system.specs.Meanings.HaveKinds, sim_system.specs.RigWords.systems_of};
-ghost use Rattle.std.specs.Prelude.{◌≡◌, ◌-◌, ◌<◌, ◌≤◌, OnOk, IfOk, All};
+ghost use Rattle.{sim_system.specs.Meanings.HaveKinds, sim_system.specs.RigWords.systems_of};
+ghost use Rattle.std.specs.Prelude.{◌≡◌, ◌-◌, OnOk, IfOk};
+ghost use Rattle.sim_held.specs.Boards.{CanPlay, CanReach, CanTurn, HasRun, IsMade};
 ghost use Rattle.sim_held.specs.{Clients.IsSeated, Playing.life_of, Runs.runs, Turns.RanOn};
 
 use crate::copying::no_state;
@@ -32,8 +33,7 @@ fn rooms_of(alloc: Global, kept: &mut Contents) -> Result<Rc<Rooms>, OutOfMemory
 /// The first state of a match.
 pub fn first_state(alloc: Global, setup: &Setup) -> Result<State, OutOfMemory>
     requires { IsSetup setup.now }
-    ensures state { IfOk result (λ state. state ≡ first_state_of setup.now) }
-    ensures valid { IfOk result (IsValid setup.now) }
+    ensures { IfOk result (IsMade setup.now (first_state_of setup.now)) }
 {
     let ground: Box<dyn System> = Box::new(alloc, Ground::new(alloc))?;
     let range: Box<dyn System> = Box::new(alloc, Range::looking(alloc))?;
@@ -63,12 +63,8 @@ pub fn after_turn(
     commands: &[PlayerCommand],
     kept: &mut Contents,
 ) -> Result<State, OutOfMemory>
-    requires limits { IsSetup setup.now }
-    requires valid { IsValid setup.now state }
-    requires below { state.turn < setup.now.turns }
-    requires players { All (IsOrderOf setup.now) commands.now }
-    ensures state { IfOk result (λ new. new ≡ turn_by setup.now state commands.now) }
-    ensures valid { IfOk result (IsValid setup.now) }
+    requires can { CanTurn setup.now state commands.now }
+    ensures { IfOk result (IsMade setup.now (turn_by setup.now state commands.now)) }
 {
     let rooms = rooms_of(alloc, kept)?;
     let ground: Box<dyn System> = Box::new(alloc, Ground::sharing(alloc, rooms.clone()?))?;
@@ -89,13 +85,9 @@ fn turned(
     commands: &[PlayerCommand],
     rig: Rig,
 ) -> Result<State, OutOfMemory>
-    requires limits { IsSetup setup.now }
-    requires valid { IsValid setup.now state }
-    requires below { state.turn < setup.now.turns }
-    requires players { All (IsOrderOf setup.now) commands.now }
+    requires can { CanTurn setup.now state commands.now }
     requires kinds { HaveKinds (systems_of rig ⟦<dyn System as System>⟧) }
-    ensures state { IfOk result (λ new. new ≡ turn_by setup.now state commands.now) }
-    ensures valid { IfOk result (IsValid setup.now) }
+    ensures { IfOk result (IsMade setup.now (turn_by setup.now state commands.now)) }
 {
     let mut handlers = Vec::with_capacity(alloc, 7)?;
     for kind in 1..8u8 {
@@ -115,13 +107,9 @@ fn taken(
     commands: &[PlayerCommand],
     orders: &OrderTable,
 ) -> Result<State, OutOfMemory>
-    requires limits { IsSetup (setup_in board) }
-    requires valid { IsValid (setup_in board) state }
-    requires below { state.turn < (setup_in board).turns }
-    requires players { All (IsOrderOf (setup_in board)) commands.now }
+    requires can { CanTurn (setup_in board) state commands.now }
     requires kinds { HaveKinds (systems board ⟦<dyn System as System>⟧) }
-    ensures state { IfOk result (λ new. new ≡ turn_by (setup_in board.entry) state commands.now) }
-    ensures valid { IfOk result (IsValid (setup_in board.entry)) }
+    ensures { let setup = setup_in board.entry in IfOk result (IsMade setup (turn_by setup state commands.now)) }
 {
     let mut board = board;
     board.adopt(state)?;
@@ -139,12 +127,8 @@ pub fn after_own(
     until: u32,
     kept: &mut Contents,
 ) -> Result<State, OutOfMemory>
-    requires limits { IsSetup setup.now }
-    requires valid { IsValid setup.now state }
-    requires ahead { state.turn ≤ until }
-    requires within { until ≤ setup.now.turns }
-    ensures state { IfOk result (λ new. new ≡ from setup.now state (own_turns setup.now state.turn (until - state.turn))) }
-    ensures valid { IfOk result (IsValid setup.now) }
+    requires can { CanReach setup.now state until }
+    ensures { IfOk result (IsMade setup.now (from setup.now state (own_turns setup.now state.turn (until - state.turn)))) }
 {
     let rooms = rooms_of(alloc, kept)?;
     let ground: Box<dyn System> = Box::new(alloc, Ground::sharing(alloc, rooms.clone()?))?;
@@ -165,13 +149,9 @@ fn turned_on(
     until: u32,
     rig: Rig,
 ) -> Result<State, OutOfMemory>
-    requires limits { IsSetup setup.now }
-    requires valid { IsValid setup.now state }
-    requires ahead { state.turn ≤ until }
-    requires within { until ≤ setup.now.turns }
+    requires can { CanReach setup.now state until }
     requires kinds { HaveKinds (systems_of rig ⟦<dyn System as System>⟧) }
-    ensures state { IfOk result (λ new. new ≡ from setup.now state (own_turns setup.now state.turn (until - state.turn))) }
-    ensures valid { IfOk result (IsValid setup.now) }
+    ensures { IfOk result (IsMade setup.now (from setup.now state (own_turns setup.now state.turn (until - state.turn)))) }
 {
     let mut handlers = Vec::with_capacity(alloc, 7)?;
     for kind in 1..8u8 {
@@ -191,13 +171,9 @@ fn taken_on(
     until: u32,
     orders: &OrderTable,
 ) -> Result<State, OutOfMemory>
-    requires limits { IsSetup (setup_in board) }
-    requires valid { IsValid (setup_in board) state }
-    requires ahead { state.turn ≤ until }
-    requires within { until ≤ (setup_in board).turns }
+    requires can { CanReach (setup_in board) state until }
     requires kinds { HaveKinds (systems board ⟦<dyn System as System>⟧) }
-    ensures state { let setup = setup_in board.entry in IfOk result (λ new. new ≡ from setup state (own_turns setup state.turn (until - state.turn))) }
-    ensures valid { IfOk result (IsValid (setup_in board.entry)) }
+    ensures { let setup = setup_in board.entry in IfOk result (IsMade setup (from setup state (own_turns setup state.turn (until - state.turn)))) }
 {
     let mut board = board;
     board.adopt(state)?;
@@ -216,10 +192,8 @@ pub fn play_seat(
     most: u32,
     kept: &mut Contents,
 ) -> Result<u32, OutOfMemory>
-    requires limits { IsSetup setup.now }
-    requires seated { IsSeated setup.now playing.old.state playing.old.seat }
-    ensures ran { IfOk result (λ turns. RanOn (runs setup.now most (life_of playing.old)) playing.old.outbox turns (life_of playing.new) playing.new.outbox) }
-    ensures seated { OnOk result (IsSeated setup.now playing.new.state playing.new.seat) }
+    requires can { CanPlay setup.now playing.old }
+    ensures { IfOk result (λ turns. HasRun setup.now (runs setup.now most (life_of playing.old)) playing.old turns playing.new) }
 {
     let rooms = rooms_of(alloc, kept)?;
     let ground: Box<dyn System> = Box::new(alloc, Ground::sharing(alloc, rooms.clone()?))?;
@@ -240,11 +214,9 @@ fn play_over(
     most: u32,
     rig: Rig,
 ) -> Result<u32, OutOfMemory>
-    requires limits { IsSetup setup.now }
-    requires seated { IsSeated setup.now playing.old.state playing.old.seat }
+    requires can { CanPlay setup.now playing.old }
     requires kinds { HaveKinds (systems_of rig ⟦<dyn System as System>⟧) }
-    ensures ran { IfOk result (λ turns. RanOn (runs setup.now most (life_of playing.old)) playing.old.outbox turns (life_of playing.new) playing.new.outbox) }
-    ensures seated { OnOk result (IsSeated setup.now playing.new.state playing.new.seat) }
+    ensures { IfOk result (λ turns. HasRun setup.now (runs setup.now most (life_of playing.old)) playing.old turns playing.new) }
 {
     let mut handlers = Vec::with_capacity(alloc, 7)?;
     for kind in 1..8u8 {
@@ -263,8 +235,7 @@ fn play_on(
     most: u32,
     orders: &OrderTable,
 ) -> Result<u32, OutOfMemory>
-    requires limits { IsSetup (setup_in board) }
-    requires seated { IsSeated (setup_in board) playing.old.state playing.old.seat }
+    requires can { CanPlay (setup_in board) playing.old }
     requires kinds { HaveKinds (systems board ⟦<dyn System as System>⟧) }
     ensures ran { let run = runs (setup_in board.entry) most (life_of playing.old) in IfOk result (λ turns. RanOn run playing.old.outbox turns
         (life_of playing.new) playing.new.outbox) }

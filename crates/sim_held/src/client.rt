@@ -1,15 +1,12 @@
 //! A client that is held.
 
-ghost use Rattle.{sim_base.specs.declared.state.State.State as AnyState, sim_board.specs.BoardWords.state_in};
-ghost use Rattle.std.specs.Str.{is_utf8};
-ghost use Rattle.std.specs.Prelude.{◌≡◌, [], map, false, IfOk, IfErr, IsOk, Ok, None, Some, Option, option_copied, option_map, string_bytes};
-ghost use Rattle.sim_client.specs.ClientWords.{is_joining, LoadsFrom, may_load, NeedsNoMemory, state_of, turn_of};
-ghost use Rattle.sim_client.specs.Lives.{hears, joins, Off, orders, plays, Told};
+ghost use Rattle.sim_board.specs.BoardWords.{state_in};
+ghost use Rattle.std.specs.Prelude.{◌≡◌, [], map, IfOk, IfErr, Some, option_copied, string_bytes};
+ghost use Rattle.sim_client.specs.ClientWords.{is_joining, state_of, turn_of};
 ghost use Rattle.sim_embed.specs.{Answers.IsStamp, Answers.IsStored, Bytes.OfMatch, Causes.IsNoMatch, Facts.entity_of};
-ghost use Rattle.sim_held.specs.{Acting.may_run, Runs.Ran, Runs.runs};
-ghost use Rattle.sim_held.specs.Clients.{command_in, done_of, IsNew, IsSame, life, LooksAt, released_of, Stays, Steps, Takes};
+ghost use Rattle.sim_held.specs.Calls.{HearsFrame, IsCutOff, Joins, LooksAtClient, Orders, Plays};
+ghost use Rattle.sim_held.specs.Clients.{done_of, IsNew, IsSame, life, LooksAt, released_of};
 ghost use Rattle.sim_report.specs.Show.{show_text};
-ghost use Rattle.sim_wire.specs.{Fits.IsDownFrame, Memory.down_carries};
 
 use crate::acting::{join, settle};
 use crate::beginning::first_stage;
@@ -82,9 +79,7 @@ impl HeldClient {
 
     /// Wishes to join.
     pub fn join(&mut self) -> Result<Went, OutOfMemory>
-        ensures steps { Steps (joins (life self.old)) (life self.old) self.old.outbox result (life self.new) self.new.outbox }
-        ensures idle { joins (life self.old) ≡ None → result ≡ Ok Went.Idle }
-        ensures same { IsSame self.old self.new }
+        ensures { Joins self.old result self.new }
     {
         let came = join(&mut self.stage, &mut self.outbox);
         settle(&mut self.stage, &mut self.outbox, came)
@@ -93,10 +88,7 @@ impl HeldClient {
     /// Gives the command that bytes spell, a list in JSON of the kind and what follows it, as in a match file behind the player. It is of
     /// the turn behind those that the client is done with.
     pub fn order(&mut self, command: &[u8]) -> Result<Went, OutOfMemory>
-        ensures takes { Takes (option_map (λ given. orders self.old.setup given (life self.old)) (command_in command.now)) (life self.old) self.old.outbox result
-            (life self.new) self.new.outbox }
-        ensures no_text { is_utf8 command.now ≡ false → result ≡ Ok Went.Refused }
-        ensures same { IsSame self.old self.new }
+        ensures { Orders command.now self.old result self.new }
     {
         let came = order(
             self.alloc,
@@ -111,14 +103,7 @@ impl HeldClient {
     /// Hears a frame of the server. Bytes that are none are refused, and nothing changes. A frame is read into memory only where what it
     /// carries may matter.
     pub fn hear(&mut self, frame: &[u8]) -> Result<Went, OutOfMemory>
-        ensures frame { (down : Told) → IsDownFrame frame.now down → (loaded : Option AnyState) → LoadsFrom self.old.setup down loaded
-            → Steps (hears self.old.setup loaded down (life self.old)) (life self.old) self.old.outbox result (life self.new) self.new.outbox }
-        ensures other { ((down : Told) → IsDownFrame frame.now down → ⊥) → (result ≡ Ok Went.Refused)
-            × Stays (life self.old) self.old.outbox (life self.new) self.new.outbox }
-        ensures sure { (down : Told) → IsDownFrame frame.now down → NeedsNoMemory (life self.old) down → IsOk result }
-        ensures idle { (down : Told) → IsDownFrame frame.now down → down_carries down ≡ false → may_load (life self.old) down ≡ false
-            → hears self.old.setup None down (life self.old) ≡ None → IsOk result }
-        ensures same { IsSame self.old self.new }
+        ensures { HearsFrame frame.now self.old result self.new }
     {
         let came = hear_frame(
             self.alloc,
@@ -132,9 +117,7 @@ impl HeldClient {
 
     /// Is cut off: it is off, and nothing waits to be sent.
     pub fn cut(&mut self)
-        ensures off { life self.new ≡ Off }
-        ensures empty { self.new.outbox ≡ [] }
-        ensures same { IsSame self.old self.new }
+        ensures { IsCutOff self.old self.new }
     {
         self.stage = Stage::Off;
         self.outbox.clear();
@@ -142,10 +125,7 @@ impl HeldClient {
 
     /// Plays the turns that are released, at most so many, and answers how many these were. The systems are made once for all of them.
     pub fn play(&mut self, most: u32) -> Result<u32, OutOfMemory>
-        ensures ran { Ran (runs self.old.setup most (life self.old)) self.old.outbox result (life self.new) self.new.outbox }
-        ensures none { may_run self.old.setup (life self.old) ≡ false → result ≡ Ok 0 }
-        ensures zero { most ≡ 0 → result ≡ Ok 0 }
-        ensures same { IsSame self.old self.new }
+        ensures { Plays most self.old result self.new }
     {
         if most == 0 {
             return Ok(0);
@@ -253,8 +233,7 @@ impl HeldClient {
 
     /// The bytes of its state, and their digest.
     pub fn stored(&self) -> Result<Option<Stored>, OutOfMemory>
-        ensures looks { IfOk result (LooksAt (state_of (life self.now)) (IsStored self.now.setup)) }
-        ensures none { state_of (life self.now) ≡ None → result ≡ Ok None }
+        ensures { LooksAtClient IsStored self.now result }
     {
         match &self.stage {
             Stage::Off => Ok(None),
@@ -265,8 +244,7 @@ impl HeldClient {
 
     /// The entities of its state, in their order.
     pub fn entities(&self) -> Result<Option<Vec<Entity>>, OutOfMemory>
-        ensures looks { IfOk result (LooksAt (state_of (life self.now)) (λ state found. found.items ≡ map entity_of state.rows)) }
-        ensures none { state_of (life self.now) ≡ None → result ≡ Ok None }
+        ensures { LooksAtClient (λ setup state found. found.items ≡ map entity_of state.rows) self.now result }
     {
         match &self.stage {
             Stage::Off => Ok(None),
@@ -277,8 +255,7 @@ impl HeldClient {
 
     /// Its state as text: a line of its clock, and one of each row.
     pub fn show(&self) -> Result<Option<String>, OutOfMemory>
-        ensures looks { IfOk result (LooksAt (state_of (life self.now)) (λ state text. string_bytes text ≡ show_text self.now.setup state)) }
-        ensures none { state_of (life self.now) ≡ None → result ≡ Ok None }
+        ensures { LooksAtClient (λ setup state text. string_bytes text ≡ show_text setup state) self.now result }
     {
         match &self.stage {
             Stage::Off => Ok(None),

@@ -1,10 +1,9 @@
 //! A match that is held in memory, for a game without a network and for replays.
 
 ghost use Rattle.{sim_base.specs.Turn.first_state as first_state_of, sim_report.specs.Show.show_text};
-ghost use Rattle.std.specs.Prelude.{◌≡◌, ◌<◌, ◌≤◌, map, false, IfOk, IfErr, OnErr, OnOk, string_bytes};
-ghost use Rattle.std.specs.Str.{is_utf8};
+ghost use Rattle.std.specs.Prelude.{◌≡◌, map, IfOk, IfErr, string_bytes};
 ghost use Rattle.sim_embed.specs.{Answers.IsStamp, Answers.IsStored, Bytes.OfMatch, Bytes.OfState, Causes.IsNoMatch, Causes.IsNoStateOf, Facts.entity_of};
-ghost use Rattle.sim_held.specs.Games.{IsNoTurnOf, PlaysOwn, PlaysTurn, turns_left};
+ghost use Rattle.sim_held.specs.Games.{PlaysGame, PlaysOwnTurns};
 
 use crate::boards::{after_own, after_turn, first_state};
 use crate::copying::copy_of;
@@ -69,11 +68,7 @@ impl HeldMatch {
 
     /// Plays a turn with the commands that bytes spell: a list in JSON, each item a player, the kind and what follows it.
     pub fn play(&mut self, commands: &[u8]) -> Result<(), Refused>
-        ensures plays { OnOk result (PlaysTurn self.old commands.now self.new) }
-        ensures err { OnErr result (self.new ≡ self.old) }
-        ensures refused { IfErr result (IsNoTurnOf self.old commands.now) }
-        ensures over { self.old.setup.turns ≤ self.old.state.turn → result ≡ Err Refused.Over }
-        ensures no_text { self.old.state.turn < self.old.setup.turns → is_utf8 commands.now ≡ false → result ≡ Err (Refused.Commands 0) }
+        ensures { PlaysGame commands.now self.old result self.new }
     {
         if self.setup.turns <= self.state.turn {
             return Err(Refused::Over);
@@ -86,8 +81,7 @@ impl HeldMatch {
 
     /// Plays the match's own turns, at most so many, and answers how many there were. The systems are made once for all of them.
     pub fn play_own(&mut self, most: u32) -> Result<u32, OutOfMemory>
-        ensures plays { PlaysOwn self.old most result self.new }
-        ensures none { turns_left self.old most ≡ 0 → result ≡ Ok 0 }
+        ensures { PlaysOwnTurns most self.old result self.new }
     {
         let first = self.state.turn;
         let turns = most.min(self.setup.turns.saturating_sub(first));

@@ -4,7 +4,7 @@ ghost use Rattle.{sim_base.specs.Limits.IsSetup, sim_base.specs.declared.setup.S
 ghost use Rattle.sim_base.specs.declared.state.State.{State as AnyState};
 ghost use Rattle.std.specs.Prelude.{◌≡◌, false, OnOk, IfOk, IsOk, None, Ok, Option};
 ghost use Rattle.sim_client.specs.{ClientWords.LoadsAt, ClientWords.LoadsFrom, ClientWords.may_load, ClientWords.NeedsNoMemory, Lives.hears, Lives.Joining, Lives.loads, Lives.refused};
-ghost use Rattle.sim_held.specs.{Acting.GoesSilently, Acting.IsOn, Clients.Goes, Clients.IsStage, Clients.life_at};
+ghost use Rattle.sim_held.specs.{Acting.GoesSilently, Acting.IsOn, Clients.Goes, Clients.IsPlaced, Clients.IsStage, Clients.life_at};
 
 use crate::acting::say;
 use crate::outbox::Outbox;
@@ -23,8 +23,7 @@ pub fn hear(
     outbox: &mut Outbox,
     down: Down,
 ) -> Result<Went, OutOfMemory>
-    requires limits { IsSetup setup.now }
-    requires sound { IsStage setup.now stage.old }
+    requires sound { IsPlaced setup.now stage.old }
     ensures goes { (loaded : Option AnyState) → LoadsFrom setup.now down loaded
         → Goes (hears setup.now loaded down (life_at stage.old)) (life_at stage.old) outbox.old result (life_at stage.new) outbox.new }
     ensures sure { NeedsNoMemory (life_at stage.old) down → IsOk result }
@@ -46,8 +45,7 @@ fn hear_on(
     outbox: &mut Outbox,
     down: Down,
 ) -> Result<Went, OutOfMemory>
-    requires limits { IsSetup setup.now }
-    requires sound { IsStage setup.now stage.old }
+    requires sound { IsPlaced setup.now stage.old }
     requires on { IsOn stage.old }
     ensures goes { (loaded : Option AnyState) → Goes (hears setup.now loaded down (life_at stage.old)) (life_at stage.old) outbox.old result
         (life_at stage.new) outbox.new }

@@ -1,9 +1,9 @@
 //! Bytes that a client is given: a command that its player gives, and a frame of the server.
 
-ghost use Rattle.{serde_json.specs.View.view, sim_base.specs.Limits.HasFewIds, sim_base.specs.Limits.IsSetup, sim_base.specs.declared.state.State.State as AnyState};
+ghost use Rattle.{serde_json.specs.View.view, sim_base.specs.Limits.HasFewIds, sim_base.specs.declared.state.State.State as AnyState};
 ghost use Rattle.std.specs.{Str.is_utf8, Prelude.◌≡◌, Prelude.true, Prelude.false, Prelude.IfOk, Prelude.IfSome, Prelude.IsErr, Prelude.IsOk, Prelude.OnOk, Prelude.None, Prelude.Ok, Prelude.Option, Prelude.option_map};
 ghost use Rattle.sim_client.specs.{ClientWords.LoadsFrom, ClientWords.may_load, ClientWords.NeedsNoMemory, Lives.hears, Lives.orders, Lives.Told};
-ghost use Rattle.sim_held.specs.{Acting.Heeds, Clients.command_in, Clients.Goes, Clients.IsStage, Clients.life_at, Clients.Stays, Hearing.brings_state as brings_state_by, Hearing.goes_by};
+ghost use Rattle.sim_held.specs.{Acting.Heeds, Clients.command_in, Clients.Goes, Clients.IsPlaced, Clients.IsStage, Clients.life_at, Clients.Stays, Hearing.brings_state as brings_state_by, Hearing.goes_by};
 ghost use Rattle.sim_wire.specs.{Fits.IsDownFrame, Memory.down_carries};
 
 use crate::acting::give;
@@ -38,8 +38,7 @@ pub fn order(
     outbox: &mut Outbox,
     bytes: &[u8],
 ) -> Result<Went, OutOfMemory>
-    requires limits { IsSetup setup.now }
-    requires sound { IsStage setup.now stage.old }
+    requires sound { IsPlaced setup.now stage.old }
     ensures heeds { Heeds (option_map (λ given. orders setup.now given (life_at stage.old)) (command_in bytes.now)) (life_at stage.old) outbox.old result
         (life_at stage.new) outbox.new }
     ensures no_text { is_utf8 bytes.now ≡ false → result ≡ Ok Went.Refused }
@@ -59,8 +58,7 @@ pub fn hear_frame(
     outbox: &mut Outbox,
     bytes: &[u8],
 ) -> Result<Went, OutOfMemory>
-    requires limits { IsSetup setup.now }
-    requires sound { IsStage setup.now stage.old }
+    requires sound { IsPlaced setup.now stage.old }
     ensures frame { (down : Told) → IsDownFrame bytes.now down → (loaded : Option AnyState) → LoadsFrom setup.now down loaded
         → Goes (hears setup.now loaded down (life_at stage.old)) (life_at stage.old) outbox.old result (life_at stage.new) outbox.new }
     ensures other { ((down : Told) → IsDownFrame bytes.now down → ⊥) → (result ≡ Ok Went.Refused)

@@ -1,11 +1,11 @@
 //! The turn server that is held.
 
 ghost use Rattle.{sim_held.specs.Servers.frames_for, sim_held.specs.Servers.is_client as is_client_of, sim_held.specs.Servers.waiting, sim_server.specs.Standing.server_of};
-ghost use Rattle.std.specs.Prelude.{◌≡◌, ℕ, ◌≤◌, List, [], ◌&&◌, nat_le, nat_lt, true, false, IfOk, IfErr, IsOk, OnErr, Ok, Option};
+ghost use Rattle.std.specs.Prelude.{◌≡◌, ℕ, ◌≤◌, List, [], ◌&&◌, nat_le, nat_lt, true, false, IfOk, IfErr, IsOk, OnErr, Option};
 ghost use Rattle.sim_embed.specs.{Bytes.OfMatch, Causes.IsNoMatch};
-ghost use Rattle.sim_held.specs.Servers.{Answers, CutsOff, Hears, IsServer, IsServerOf, Leaves};
-ghost use Rattle.sim_plain.specs.{Messages.Heard, declared.message.UpOf.UpOf};
-ghost use Rattle.sim_wire.specs.Fits.{IsSmallUp, IsUpFrame};
+ghost use Rattle.sim_held.specs.Servers.{Answers, CutsOff, HasLost, Hears, HearsFrame, IsServer, IsServerOf, Leaves};
+ghost use Rattle.sim_plain.specs.Messages.{Heard};
+ghost use Rattle.sim_wire.specs.Fits.{IsSmallUp};
 
 use crate::stage::Went;
 use crate::waiting::{frames_to, keep, leave};
@@ -81,11 +81,7 @@ impl HeldServer {
     /// Hears bytes as they came from a client. Bytes that are no frame are refused, and the client is cut off, as by `cut`: its connection
     /// has to be closed.
     pub fn hear(&mut self, from: u8, frame: &[u8]) -> Result<Went, OutOfMemory>
-        ensures frame { (message : UpOf (List ℕ)) → IsUpFrame frame.now message
-            → Answers (is_client_of self.old.server from) Went.Done (Hears (Heard from message)) self.old result self.new }
-        ensures other { ((message : UpOf (List ℕ)) → IsUpFrame frame.now message → ⊥)
-            → Answers (is_client_of self.old.server from) Went.Refused (CutsOff from) self.old result self.new }
-        ensures nobody { is_client_of self.old.server from ≡ false → result ≡ Ok Went.Idle }
+        ensures { HearsFrame from frame.now self.old result self.new }
     {
         if !is_client(self.clients, from) {
             return Ok(Went::Idle);
@@ -123,8 +119,7 @@ impl HeldServer {
 
     /// Sees that the connection of a client has ended. What waits for it is dropped.
     pub fn cut(&mut self, client: u8) -> Result<Went, OutOfMemory>
-        ensures cuts { Answers (is_client_of self.old.server client) Went.Done (CutsOff client) self.old result self.new }
-        ensures nobody { is_client_of self.old.server client ≡ false → result ≡ Ok Went.Idle }
+        ensures { HasLost client self.old result self.new }
     {
         if !is_client(self.clients, client) {
             return Ok(Went::Idle);

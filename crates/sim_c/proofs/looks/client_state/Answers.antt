@@ -8,6 +8,6 @@ returns c =
     let fits : SFits w32 c.give_state.result = search rules in
     record {
       answer = c.stored.result;
-      is = record { looks = c.stored.ensures.looks; none = c.stored.ensures.none };
+      is = c.stored.ensures;
       puts = simp to_z-of_z c.give_state.ensures;
     }

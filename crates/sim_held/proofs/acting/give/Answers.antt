@@ -12,5 +12,5 @@ say-requires c =
 pub returns-clause-sound : goal.returns-clause-sound
 returns-clause-sound c =
     let setup = c.args.setup.now in
-    let was = subst (IsStage setup) c.in-On.is c.requires.sound in
+    let was = subst (IsStage setup) c.in-On.is c.requires.sound.stage in
     anyway c.say.result (record { valid = was.valid; known = subst (AreByPlayers setup) (sym c.in_ok-did.ensures.known) was.known })

@@ -10,8 +10,8 @@ play_turns-requires g c =
     record {
       same = refl;
       whole = c.in_ok-adopt.ensures.whole;
-      valid = subst (λ s. IsValid s c.adopt.new.self.state) here (subst (IsValid (setup_in c.args.board)) state c.requires.seated.valid);
-      known = subst (λ s. AreByPlayers s c.args.playing.now.seat.known) here c.requires.seated.known;
+      valid = subst (λ s. IsValid s c.adopt.new.self.state) here (subst (IsValid (setup_in c.args.board)) state c.requires.can.seated.valid);
+      known = subst (λ s. AreByPlayers s c.args.playing.now.seat.known) here c.requires.can.seated.known;
     }
 
 pub returns-clause-seated : goal.returns-clause-seated

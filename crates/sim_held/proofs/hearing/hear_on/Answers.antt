@@ -7,8 +7,8 @@ pub say-requires : goal.say-requires
 say-requires c =
     let setup = c.args.setup.now in
     let state = c.in-On.state in
-    let was = subst (IsStage setup) c.in-On.is c.requires.sound in
-    hear_small setup c.args.down (player_at state c.in-On.seat) c.in_ok-did.did (On (player_at state c.heed.new.seat)) c.requires.limits was.valid
+    let was = subst (IsStage setup) c.in-On.is c.requires.sound.stage in
+    hear_small setup c.args.down (player_at state c.in-On.seat) c.in_ok-did.did (On (player_at state c.heed.new.seat)) c.requires.sound.limits was.valid
     (c.in_ok-did.ensures.answers None)
 
 pub returns-clause-goes : goal.returns-clause-goes

@@ -1,6 +1,6 @@
 -- The match stands, the stage is sound after the step, and what was refused memory is cut off.
 use Rattle.sim_client.{proofs.Standing.anyway, specs.Lives.joins}
-use Rattle.sim_held.proofs.{Common.life_at, Common.◌∙◌, Stepping.goes_steps}
+use Rattle.sim_held.proofs.{Common.life_at, Common.refl, Common.◌∙◌, Stepping.goes_steps}
 use Rattle.sim_held.proofs.client.HeldClient.join.Goals as goal
 
 pub invariant_of-self : goal.invariant_of-self
@@ -13,14 +13,15 @@ invariant_of-self c =
       stage = c.settle.ensures.sound setup (anyway came.result (came.ensures.sound setup c.self.invariant.stage));
     }
 
-pub returns-clause-steps : goal.returns-clause-steps
-returns-clause-steps c =
+pub returns : goal.returns
+returns c =
     let before = c.self.inside in
     let came = c.join-came in
     let settled = c.settle in
-    rw (← c.self.view_is)
-    (goes_steps (joins (life_at before.stage)) (life_at before.stage) (life_at came.new.stage) (life_at settled.new.stage) before.outbox came.new.outbox
-    settled.new.outbox came.result settled.result came.ensures.goes settled.ensures.same settled.ensures.ok settled.ensures.err)
-
-pub returns-clause-idle : goal.returns-clause-idle
-returns-clause-idle c = rw (← c.self.view_is) (λ no. c.settle.ensures.same ∙ c.join-came.ensures.idle no)
+    rw (← c.self.view_is) (record {
+      steps =
+          goes_steps (joins (life_at before.stage)) (life_at before.stage) (life_at came.new.stage) (life_at settled.new.stage) before.outbox came.new.outbox
+          settled.new.outbox came.result settled.result came.ensures.goes settled.ensures.same settled.ensures.ok settled.ensures.err;
+      idle = λ no. settled.ensures.same ∙ came.ensures.idle no;
+      same = record { setup = refl; number = refl };
+    })
