@@ -1,5 +1,6 @@
 -- The words that the proofs here name again and again, passed on from one place. Declares nothing.
-pub use Rattle.{sim_board.specs.BoardWords.AreKept, sim_board.specs.declared.board.Board.Board, std.proofs.Common.rules, std.proofs.Common.sym, std.proofs.Common.◌∙◌}
+pub use Rattle.{sim_board.specs.BoardWords.AreKept, sim_board.specs.declared.board.Board.Board}
+pub use Rattle.{std.proofs.Common.rules, std.proofs.Common.sym, std.proofs.Common.◌∙◌}
 pub use Rattle.{sim_plain.proofs.Statuses.put_other, sim_server.specs.Standing.IsClient}
 pub use Rattle.std.proofs.{Math.Seq.get_or-append_seam, lemmas.List.map-set, lemmas.List.replicate-append-replicate, lemmas.Option.none-some}
 pub use Rattle.std.proofs.Common.{add-one, ap, append-nil, append_assoc, arith, get_or-set_other, get_or-set_same, inl, inr, length-append, length-drop, subst}

@@ -1,7 +1,8 @@
 -- What a session keeps over a call and another, and what of its rigs comes back behind both.
 use Rattle.{std.proofs.Common.drop, std.specs.Prelude.vec_capacity, std.specs.Prelude.Vec, sim_system.specs.RigWords.systems_by as rig_by}
 use Rattle.sim_session.proofs.{Builds.front_built, Coming.all_back, Coming.same_count}
-use Rattle.sim_session.proofs.TextCommon.{◌≡◌, ◌++◌, List, length, AllBuiltAtMost, ap, builds_of, length-map, Meaning, refl, Setup, StepList, subst, sym, systems_by, systems_on, ◌∙◌, ℕ}
+use Rattle.sim_session.proofs.TextCommon.{◌≡◌, ◌++◌, List, length, AllBuiltAtMost, ap, builds_of, length-map, Meaning}
+use Rattle.sim_session.proofs.TextCommon.{refl, Setup, StepList, subst, sym, systems_by, systems_on, ◌∙◌, ℕ}
 use Rattle.sim_session.specs.Going.{ComeBackBy, KeepsBy, MayBeginBy}
 use Rattle.sim_session.specs.SessionWords.{IsSessionBy, MayFinishBy, rigs_by}
 use Rattle.{sim_session.specs.declared.session.Session.Session, sim_system.specs.declared.rig.Rig.Rig, sim_system.specs.Meanings.HaveKinds}

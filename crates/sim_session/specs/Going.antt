@@ -5,8 +5,10 @@ use Rattle.sim_base.specs.{Limits.IsSetup, declared.setup.Setup.Setup, declared.
 use Rattle.sim_client.specs.{Lives.Life, StageWords.AreCleared, declared.client.Client.Client}
 use Rattle.sim_plain_session.specs.{Printed.events, Sessions.client_of, Sessions.opened, Sessions.session as session_over}
 use Rattle.sim_session.specs.{Building.AreBuilt, Building.AreBuiltIf, Building.ChangeAt, Building.has_load, SessionText.session_of}
-use Rattle.sim_session.specs.{Rigs.AllBuiltAtMost, Rigs.builds_of, Standing.IsIdle, Standing.StandsFor, Standing.StandsForSome, declared.session.Session.Session}
-use Rattle.sim_session.specs.SessionWords.{AreMembersBy, clients_in, IsSessionBy, lives_of, MayFinishBy, rigs_by, room_in, seen_in, setup_in, spare_in, systems_by}
+use Rattle.sim_session.specs.{Rigs.AllBuiltAtMost, Rigs.builds_of, Standing.IsIdle}
+use Rattle.sim_session.specs.{Standing.StandsFor, Standing.StandsForSome, declared.session.Session.Session}
+use Rattle.sim_session.specs.SessionWords.{AreMembersBy, clients_in, IsSessionBy, lives_of, MayFinishBy}
+use Rattle.sim_session.specs.SessionWords.{rigs_by, room_in, seen_in, setup_in, spare_in, systems_by}
 use Rattle.sim_system.specs.{Meanings.HaveKinds, Meanings.Meaning, Meanings.Systems, declared.rig.Rig.Rig, declared.system.System.Ghosts}
 
 -- ---- rigs

@@ -61,7 +61,8 @@ fn order(
 ) -> Result<Events, OutOfMemory>
     requires may { MayAct ⟦<dyn System as System>⟧ number client.old exchange.old }
     requires few { HasFewIds command.now }
-    ensures { Acts ⟦<dyn System as System>⟧ (step.Order number command.now) (orders (setup_in client.old) command.now (life client.old) ≡ None) result client.old exchange.old client.new exchange.new }
+    ensures { Acts ⟦<dyn System as System>⟧ (step.Order number command.now) (orders (setup_in client.old) command.now (life client.old) ≡ None) result
+        client.old exchange.old client.new exchange.new }
 {
     let did = client.order(command)?;
     let ups = ups_of(alloc, did);
@@ -108,7 +109,8 @@ fn play(
     number: u8,
 ) -> Result<Events, OutOfMemory>
     requires { MayAct ⟦<dyn System as System>⟧ number client.old exchange.old }
-    ensures { Acts ⟦<dyn System as System>⟧ (step.Play number) (plays (setup_in client.old) (life client.old) ≡ None) result client.old exchange.old client.new exchange.new }
+    ensures { Acts ⟦<dyn System as System>⟧ (step.Play number) (plays (setup_in client.old) (life client.old) ≡ None) result client.old exchange.old
+        client.new exchange.new }
 {
     let made = client.play_beside(digests)?;
     let Played { did, digest } = made;
@@ -163,7 +165,8 @@ fn bend(
     health: Fixed,
 ) -> Result<Events, OutOfMemory>
     requires sound { IsSound client.old ⟦<dyn System as System>⟧ }
-    ensures acts { Acts ⟦<dyn System as System>⟧ (step.Bend number entity health) (bends (setup_in client.old) entity health (life client.old) ≡ None) result client.old exchange.now client.new exchange.now }
+    ensures acts { Acts ⟦<dyn System as System>⟧ (step.Bend number entity health) (bends (setup_in client.old) entity health (life client.old) ≡ None)
+        result client.old exchange.now client.new exchange.now }
     ensures sound { IsSound client.new ⟦<dyn System as System>⟧ }
 {
     if !client.bend(entity, health) {

@@ -58,7 +58,8 @@ fn push_steps(
     requires { MayPass ⟦<dyn System as System>⟧ list.now.clients list.now session.old }
     ensures text { OnOk result (string_bytes text.new ≡ string_bytes text.old ++
         lines_of (events_after (setup_in session.old) (opened (setup_in session.old) list.now.clients) list.now.steps)) }
-    ensures passes { Passes ⟦<dyn System as System>⟧ list.now (loads_in (events_after (setup_in session.old) (opened (setup_in session.old) list.now.clients) list.now.steps)) result session.old session.new }
+    ensures passes { Passes ⟦<dyn System as System>⟧ list.now (loads_in (events_after (setup_in session.old) (opened (setup_in session.old) list.now.clients)
+        list.now.steps)) result session.old session.new }
 {
     for step in list.steps.as_slice() {
         let events = session.step(step)?;

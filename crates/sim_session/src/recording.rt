@@ -20,7 +20,8 @@ use std::alloc::Global;
 // Makes each step of the list.
 fn make_steps(session: &mut Session<'_>, list: &StepList) -> Result<(), OutOfMemory>
     requires { MayPass ⟦<dyn System as System>⟧ list.now.clients list.now session.old }
-    ensures { Passes ⟦<dyn System as System>⟧ list.now (loads_in (events_after (setup_in session.old) (opened (setup_in session.old) list.now.clients) list.now.steps)) result session.old session.new }
+    ensures { Passes ⟦<dyn System as System>⟧ list.now (loads_in (events_after (setup_in session.old) (opened (setup_in session.old) list.now.clients)
+        list.now.steps)) result session.old session.new }
 {
     for step in list.steps.as_slice() {
         session.step(step)?;

@@ -27,7 +27,9 @@ fn seat_one<'a>(
     requires left { 0 < length rigs.old.items }
     requires fresh { AreFresh ⟦<dyn System as System>⟧ rigs.old.items }
     requires members { AreMembers setup.now clients.old.items ⟦<dyn System as System>⟧ }
-    ensures seats { Seats ⟦<dyn System as System>⟧ setup.now (drop 1 rigs.old.items) (systems_of clients.old.items ⟦<dyn System as System>⟧ ++ rigs_of rigs.old.items ⟦<dyn System as System>⟧) (lives_of clients.old.items ++ Off ∷ []) clients.new.items rigs.old rigs.new }
+    ensures seats { Seats ⟦<dyn System as System>⟧ setup.now (drop 1 rigs.old.items)
+        (systems_of clients.old.items ⟦<dyn System as System>⟧ ++ rigs_of rigs.old.items ⟦<dyn System as System>⟧) (lives_of clients.old.items ++ Off ∷ [])
+        clients.new.items rigs.old rigs.new }
     ensures room { vec_capacity clients.old ≤ vec_capacity clients.new }
 {
     let client = Client::new(alloc, setup, orders, number, rigs.remove(0));
@@ -50,7 +52,8 @@ pub fn seat<'a>(
     requires room { setup.now.players ≤ vec_capacity clients.old }
     requires enough { setup.now.players ≤ length rigs.old.items }
     requires fresh { AreFresh ⟦<dyn System as System>⟧ rigs.old.items }
-    ensures { Seats ⟦<dyn System as System>⟧ setup.now (drop setup.now.players rigs.old.items) (rigs_of rigs.old.items ⟦<dyn System as System>⟧) (replicate setup.now.players Off) clients.new.items rigs.old rigs.new }
+    ensures { Seats ⟦<dyn System as System>⟧ setup.now (drop setup.now.players rigs.old.items) (rigs_of rigs.old.items ⟦<dyn System as System>⟧)
+        (replicate setup.now.players Off) clients.new.items rigs.old rigs.new }
 {
     for i in 0..setup.players {
         seat_one(alloc, setup, orders, clients, rigs, i + 1);

@@ -1,6 +1,7 @@
 -- The server hears what a client said; systems are built by loads alone; and a step that is not enabled comes to an end.
 use Rattle.sim_session.proofs.{Acted.acted, Beside.unbuilt, Beside.up_makes, Common.sym}
-use Rattle.sim_session.proofs.Common.{anyway, IfOk, IsOk, refl, client_of, events_by, has_load, IsClient, life_at, LoadsBy, Makes, MayHearBy, rules, Step, subst}
+use Rattle.sim_session.proofs.Common.{anyway, IfOk, IsOk, refl, client_of, events_by, has_load}
+use Rattle.sim_session.proofs.Common.{IsClient, life_at, LoadsBy, Makes, MayHearBy, rules, Step, subst}
 use Rattle.sim_session.proofs.Idling.{bend_idle, cut_idle, down_idle, join_idle, order_idle, play_idle, up_idle, WhereIdle}
 use Rattle.sim_session.proofs.acting.act.Goals as goal
 
@@ -45,21 +46,24 @@ pub returns-in-Order-clause-loads : goal.returns-in-Order-clause-loads
 returns-in-Order-clause-loads g c =
     let old = c.args.client.now in
     let new = c.order.new.client in
-    subst (λ (x : Step). LoadsBy (λ i v. (goal.System-dyn g (i, v)).meaning v) x c.order.result old c.args.exchange.now new c.order.new.exchange) (sym c.in-Order.is)
+    subst (λ (x : Step). LoadsBy (λ i v. (goal.System-dyn g (i, v)).meaning v) x c.order.result old c.args.exchange.now new c.order.new.exchange)
+    (sym c.in-Order.is)
     (acted (λ i v. (goal.System-dyn g (i, v)).meaning v) _ _ c.order.result old c.args.exchange.now new _ c.order.ensures)
 
 pub returns-in-Play-clause-loads : goal.returns-in-Play-clause-loads
 returns-in-Play-clause-loads g c =
     let old = c.args.client.now in
     let new = c.play.new.client in
-    subst (λ (x : Step). LoadsBy (λ i v. (goal.System-dyn g (i, v)).meaning v) x c.play.result old c.args.exchange.now new c.play.new.exchange) (sym c.in-Play.is)
+    subst (λ (x : Step). LoadsBy (λ i v. (goal.System-dyn g (i, v)).meaning v) x c.play.result old c.args.exchange.now new c.play.new.exchange)
+    (sym c.in-Play.is)
     (acted (λ i v. (goal.System-dyn g (i, v)).meaning v) _ _ c.play.result old c.args.exchange.now new _ c.play.ensures)
 
 pub returns-in-Join-clause-loads : goal.returns-in-Join-clause-loads
 returns-in-Join-clause-loads g c =
     let old = c.args.client.now in
     let new = c.join.new.client in
-    subst (λ (x : Step). LoadsBy (λ i v. (goal.System-dyn g (i, v)).meaning v) x c.join.result old c.args.exchange.now new c.join.new.exchange) (sym c.in-Join.is)
+    subst (λ (x : Step). LoadsBy (λ i v. (goal.System-dyn g (i, v)).meaning v) x c.join.result old c.args.exchange.now new c.join.new.exchange)
+    (sym c.in-Join.is)
     (acted (λ i v. (goal.System-dyn g (i, v)).meaning v) _ _ c.join.result old c.args.exchange.now new _ c.join.ensures)
 
 pub returns-in-Cut-clause-loads : goal.returns-in-Cut-clause-loads
@@ -73,14 +77,16 @@ pub returns-in-Bend-clause-loads : goal.returns-in-Bend-clause-loads
 returns-in-Bend-clause-loads g c =
     let old = c.args.client.now in
     let new = c.bend.new.client in
-    subst (λ (x : Step). LoadsBy (λ i v. (goal.System-dyn g (i, v)).meaning v) x c.bend.result old c.args.exchange.now new c.args.exchange.now) (sym c.in-Bend.is)
+    subst (λ (x : Step). LoadsBy (λ i v. (goal.System-dyn g (i, v)).meaning v) x c.bend.result old c.args.exchange.now new c.args.exchange.now)
+    (sym c.in-Bend.is)
     (acted (λ i v. (goal.System-dyn g (i, v)).meaning v) _ _ c.bend.result old c.args.exchange.now new _ c.bend.ensures.acts)
 
 pub returns-in-Down-clause-loads : goal.returns-in-Down-clause-loads
 returns-in-Down-clause-loads g c =
     let old = c.args.client.now in
     let new = c.down.new.client in
-    subst (λ (x : Step). LoadsBy (λ i v. (goal.System-dyn g (i, v)).meaning v) x c.down.result old c.args.exchange.now new c.down.new.exchange) (sym c.in-Down.is)
+    subst (λ (x : Step). LoadsBy (λ i v. (goal.System-dyn g (i, v)).meaning v) x c.down.result old c.args.exchange.now new c.down.new.exchange)
+    (sym c.in-Down.is)
     c.down.ensures.loads
 
 pub returns-in-Up-clause-loads : goal.returns-in-Up-clause-loads

@@ -65,7 +65,8 @@ returns-in_err-push_steps-clause-passes g c =
     let next = systems_by c.start.new.self.clients.items (λ i v. (goal.System-dyn g (i, v)).meaning v) in
     let many = length-map c.args.session.now.clients.items (λ x. systems_on x.board (λ i v. (goal.System-dyn g (i, v)).meaning v)) ∙ c.requires.session.count in
     let last = systems_by c.push_steps.new.session.clients.items (λ i v. (goal.System-dyn g (i, v)).meaning v) in
-    let steps = subst (λ (s : Setup). AllBuiltAtMost (loads_in (events_after s (opened s list.clients) list.steps)) s.players next last) c.start.ensures.goes.keeps.setup
+    let steps = subst (λ (s : Setup). AllBuiltAtMost (loads_in (events_after s (opened s list.clients) list.steps)) s.players next last)
+    c.start.ensures.goes.keeps.setup
     c.push_steps.ensures.passes.built in
     record {
       stands = search rules;
@@ -84,7 +85,8 @@ returns-clause-passes g c =
     let next = systems_by c.start.new.self.clients.items (λ i v. (goal.System-dyn g (i, v)).meaning v) in
     let many = length-map c.args.session.now.clients.items (λ x. systems_on x.board (λ i v. (goal.System-dyn g (i, v)).meaning v)) ∙ c.requires.session.count in
     let last = systems_by c.push_steps.new.session.clients.items (λ i v. (goal.System-dyn g (i, v)).meaning v) in
-    let steps = subst (λ (s : Setup). AllBuiltAtMost (loads_in (events_after s (opened s list.clients) list.steps)) s.players next last) c.start.ensures.goes.keeps.setup
+    let steps = subst (λ (s : Setup). AllBuiltAtMost (loads_in (events_after s (opened s list.clients) list.steps)) s.players next last)
+    c.start.ensures.goes.keeps.setup
     c.push_steps.ensures.passes.built in
     record {
       stands = anyway c.push_ending.result

@@ -7,10 +7,12 @@ use Rattle.sim_session.proofs.hosting.session_text.Goals as goal
 pub returns-in-Ok-told-clause-rigs : goal.returns-in-Ok-told-clause-rigs
 returns-in-Ok-told-clause-rigs g c =
     record {
-      built = built_back (λ i v. (g.dyn-2.0.entry i).1.meaning v) c.args.setup.now c.args.list.now c.in-Ok.session c.push_session-told.new.session c.args.rigs.items
+      built = built_back (λ i v. (g.dyn-2.0.entry i).1.meaning v) c.args.setup.now c.args.list.now c.in-Ok.session c.push_session-told.new.session
+          c.args.rigs.items
           c.finish-rigs.result.items c.in-Ok.ensures.session c.in-Ok.ensures.setup c.in-Ok.ensures.systems c.push_session-told.ensures.passes.goes.keeps
           c.push_session-told.ensures.passes.built c.finish-rigs.ensures.systems;
-      back = came_back (λ i v. (g.dyn-2.0.entry i).1.meaning v) c.args.setup.now c.in-Ok.session c.push_session-told.new.session c.args.rigs c.finish-rigs.result
+      back = came_back (λ i v. (g.dyn-2.0.entry i).1.meaning v) c.args.setup.now c.in-Ok.session c.push_session-told.new.session c.args.rigs
+          c.finish-rigs.result
           c.requires.begins c.in-Ok.ensures.session c.in-Ok.ensures.setup c.in-Ok.ensures.systems c.in-Ok.ensures.spare c.in-Ok.ensures.room
           c.push_session-told.ensures.passes.goes.keeps c.finish-rigs.ensures.systems c.finish-rigs.ensures.spare c.finish-rigs.ensures.room;
     }
@@ -18,10 +20,12 @@ returns-in-Ok-told-clause-rigs g c =
 pub returns-in-Err-told-clause-rigs : goal.returns-in-Err-told-clause-rigs
 returns-in-Err-told-clause-rigs g c =
     record {
-      built = built_back (λ i v. (g.dyn-2.0.entry i).1.meaning v) c.args.setup.now c.args.list.now c.in-Ok.session c.push_session-told.new.session c.args.rigs.items
+      built = built_back (λ i v. (g.dyn-2.0.entry i).1.meaning v) c.args.setup.now c.args.list.now c.in-Ok.session c.push_session-told.new.session
+          c.args.rigs.items
           c.finish-rigs.result.items c.in-Ok.ensures.session c.in-Ok.ensures.setup c.in-Ok.ensures.systems c.push_session-told.ensures.passes.goes.keeps
           c.push_session-told.ensures.passes.built c.finish-rigs.ensures.systems;
-      back = came_back (λ i v. (g.dyn-2.0.entry i).1.meaning v) c.args.setup.now c.in-Ok.session c.push_session-told.new.session c.args.rigs c.finish-rigs.result
+      back = came_back (λ i v. (g.dyn-2.0.entry i).1.meaning v) c.args.setup.now c.in-Ok.session c.push_session-told.new.session c.args.rigs
+          c.finish-rigs.result
           c.requires.begins c.in-Ok.ensures.session c.in-Ok.ensures.setup c.in-Ok.ensures.systems c.in-Ok.ensures.spare c.in-Ok.ensures.room
           c.push_session-told.ensures.passes.goes.keeps c.finish-rigs.ensures.systems c.finish-rigs.ensures.spare c.finish-rigs.ensures.room;
     }

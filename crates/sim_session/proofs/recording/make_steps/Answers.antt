@@ -20,7 +20,8 @@ loop-step-preserved g c =
     let lt : n < length steps = search rules in
     let is = c.step-item.is ∙ ap (λ xs. get_or xs n step) items_are in
     let few : active ≤ setup.players = c.requires.list.clients.1 in
-    let made = subst (λ (s : Setup). Steps s (seen_in l.session) step (seen_in c.step.new.self) c.in_ok-step.field-0) was.keeps.setup c.in_ok-step.ensures.steps in
+    let made = subst (λ (s : Setup). Steps s (seen_in l.session) step (seen_in c.step.new.self) c.in_ok-step.field-0) was.keeps.setup
+    c.in_ok-step.ensures.steps in
     let printed = made.printed active (take n steps) few was.stands in
     let evs = c.in_ok-step.field-0 in
     let own = client_of step in
@@ -66,7 +67,8 @@ returns-in_err-step g c =
     c.step.ensures.takes.loads in
     record {
       stands = search rules;
-      built = built_by_then setup active n steps step (systems_by c.args.session.now.clients.items (λ i v. (goal.System-dyn g (i, v)).meaning v)) systems_were systems_are
+      built = built_by_then setup active n steps step (systems_by c.args.session.now.clients.items (λ i v. (goal.System-dyn g (i, v)).meaning v))
+          systems_were systems_are
           lt is (omega (arith, fits.client.0)) many was.built
           (loads active (take n steps) few was.stands);
       goes = record {

@@ -20,14 +20,18 @@ returns-in-Ok-clause-rigs g c =
     let setup = c.args.setup.now in
     let list = c.args.list.now in
     let keeps = c.record-turns.ensures.keeps in
-    let back = came_back (λ i v. (g.dyn-2.0.entry i).1.meaning v) setup c.in-Ok.session c.record-turns.new.session c.args.rigs c.finish-rigs.result c.requires.begins c.in-Ok.ensures.session
+    let back = came_back (λ i v. (g.dyn-2.0.entry i).1.meaning v) setup c.in-Ok.session c.record-turns.new.session c.args.rigs c.finish-rigs.result
+    c.requires.begins c.in-Ok.ensures.session
     c.in-Ok.ensures.setup c.in-Ok.ensures.systems c.in-Ok.ensures.spare c.in-Ok.ensures.room keeps c.finish-rigs.ensures.systems
     c.finish-rigs.ensures.spare c.finish-rigs.ensures.room in
-    let finished = built_back (λ i v. (g.dyn-2.0.entry i).1.meaning v) setup list c.in-Ok.session c.record-turns.new.session c.args.rigs.items c.finish-rigs.result.items
+    let finished = built_back (λ i v. (g.dyn-2.0.entry i).1.meaning v) setup list c.in-Ok.session c.record-turns.new.session c.args.rigs.items
+    c.finish-rigs.result.items
     c.in-Ok.ensures.session c.in-Ok.ensures.setup c.in-Ok.ensures.systems keeps c.record-turns.ensures.built c.finish-rigs.ensures.systems in
     record {
-      built = all_built_so (builds_of setup list) (λ k. 0) (builds_of setup list) setup.players (rigs_by c.args.rigs.items (λ i v. (g.dyn-2.0.entry i).1.meaning v))
-          (rigs_by c.finish-rigs.result.items (λ i v. (g.dyn-2.0.entry i).1.meaning v)) (rigs_by c.clear.new.rigs.items (λ i v. (g.dyn-2.0.entry i).1.meaning v)) (λ k. omega arith) finished c.clear.ensures.built;
+      built = all_built_so (builds_of setup list) (λ k. 0) (builds_of setup list) setup.players
+          (rigs_by c.args.rigs.items (λ i v. (g.dyn-2.0.entry i).1.meaning v))
+          (rigs_by c.finish-rigs.result.items (λ i v. (g.dyn-2.0.entry i).1.meaning v))
+          (rigs_by c.clear.new.rigs.items (λ i v. (g.dyn-2.0.entry i).1.meaning v)) (λ k. omega arith) finished c.clear.ensures.built;
       back = record {
         kinds = c.clear.ensures.kinds back.kinds;
         spare = c.clear.ensures.spare ∙ back.spare;

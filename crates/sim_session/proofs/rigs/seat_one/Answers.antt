@@ -25,8 +25,10 @@ returns-clause-seats g c =
     let rest : c.remove.new.self.items ≡ drop 1 c.args.rigs.now.items = search rules in
     record {
       rigs = rest;
-      systems = (λ i. systems_by (c.in-Ok.ensures.items i) (λ i v. (goal.System-dyn g (i, v)).meaning v) ++ rigs_by (rest i) (λ i v. (goal.System-dyn g (i, v)).meaning v))
-          ∙ moved_first (λ x. systems_on x.board (λ i v. (goal.System-dyn g (i, v)).meaning v)) (λ r. rig_by r (λ i v. (goal.System-dyn g (i, v)).meaning v)) clients client c.args.rigs.now.items c.remove.result c.requires.left
+      systems = (λ i. systems_by (c.in-Ok.ensures.items i) (λ i v. (goal.System-dyn g (i, v)).meaning v) ++ rigs_by (rest i)
+          (λ i v. (goal.System-dyn g (i, v)).meaning v))
+          ∙ moved_first (λ x. systems_on x.board (λ i v. (goal.System-dyn g (i, v)).meaning v)) (λ r. rig_by r (λ i v. (goal.System-dyn g (i, v)).meaning v))
+          clients client c.args.rigs.now.items c.remove.result c.requires.left
           c.remove.ensures.value c.new-client.ensures.systems;
       members = subst (λ l. AreMembersBy setup l (λ i v. (goal.System-dyn g (i, v)).meaning v)) (sym c.in-Ok.ensures.items)
           (All-append (λ x. IsMemberBy setup x (λ i v. (goal.System-dyn g (i, v)).meaning v)) clients (client ∷ []) c.requires.members

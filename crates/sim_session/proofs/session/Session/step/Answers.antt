@@ -1,7 +1,8 @@
 -- One client acts in its place in the list, and all others are as they were.
 use Rattle.sim_session.proofs.{Beside.then_ok, Beside.then_on, Common.systems_on, Common.◌∙◌, Seating.changed, Seating.kinds_put, Seating.was_there}
 use Rattle.sim_session.proofs.Common.{has_load, IsMemberBy, length-set, life_at, lives_of, Makes, session, Setup, stepped_by, subst, sym, systems_by}
-use Rattle.sim_session.proofs.Common.{◌+◌, ◌-◌, ◌<◌, ◌≤◌, vec_capacity, refl, rules, List, length, get_or, set, All-set, ap, AreBuilt, AreBuiltIf, arith, ChangeAt, client_of, Event, events_by}
+use Rattle.sim_session.proofs.Common.{◌+◌, ◌-◌, ◌<◌, ◌≤◌, vec_capacity, refl, rules, List, length, get_or}
+use Rattle.sim_session.proofs.Common.{set, All-set, ap, AreBuilt, AreBuiltIf, arith, ChangeAt, client_of, Event, events_by}
 use Rattle.sim_session.proofs.Stepping.{events_are, goes_on_at, one_beside, some_beside, stepped_is}
 use Rattle.sim_session.proofs.session.Session.step.Goals as goal
 
@@ -35,7 +36,8 @@ returns-clause-steps g c =
     let member = subst (λ x. IsMemberBy self.setup.now x (λ i v. (goal.System-dyn g (i, v)).meaning v)) (sym c.index_mut-client.ensures.value)
     (c.requires.on.session.members i client within) in
     let new = c.act.new.client in
-    then_ok c.act.result (λ events makes. goes_on_at self.setup.now c.requires.on.session.limits c.args.step.now c.requires.client (λ x. life_at x.stage x.board)
+    then_ok c.act.result (λ events makes. goes_on_at self.setup.now c.requires.on.session.limits c.args.step.now c.requires.client
+    (λ x. life_at x.stage x.board)
     self.clients.items i client new self.exchange c.act.new.exchange events
     c.requires.on.session.count (ap (λ k. k - 1) is) c.index_mut-client.ensures.value
     (subst (λ m. Makes m c.args.step.now (life_at client.stage client.board) self.exchange (life_at new.stage new.board) c.act.new.exchange events) member.same
@@ -55,7 +57,8 @@ returns-clause-goes g c =
     let kinds = kinds_put (λ x. systems_on x.board (λ i v. (goal.System-dyn g (i, v)).meaning v)) self.clients.items i new acted.most.kinds
     c.requires.on.session.finish.kinds in
     let many = length-set self.clients.items i new in
-    let room : length (set self.clients.items i new) + length self.rigs.items ≤ vec_capacity self.rigs = omega (arith, many, c.requires.on.session.finish.room) in
+    let room : length (set self.clients.items i new) + length self.rigs.items ≤ vec_capacity self.rigs = omega
+    (arith, many, c.requires.on.session.finish.room) in
     record {
       session = then_on c.act.result (λ sound. record {
         limits = c.requires.on.session.limits;
