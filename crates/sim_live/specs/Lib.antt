@@ -2,6 +2,8 @@ pub mod Looks
 pub mod LineWords
 pub mod Shown
 pub mod Live
+pub mod Answering
+pub mod Reading
 pub mod Spoken
 pub mod Arrived
 pub mod Relays

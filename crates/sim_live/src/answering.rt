@@ -1,11 +1,12 @@
 //! What is answered to a line: the whole text is made before any of it is told.
 
-ghost use Rattle.{sim_base.specs.declared.step.Step.Step as AnyStep, sim_session.specs.Standing.StandsFor, sim_session.specs.Standing.StandsForSome};
+ghost use Rattle.{sim_base.specs.declared.step.Step.Step as AnyStep, sim_session.specs.Going.IsOn, sim_session.specs.Standing.StandsFor};
 ghost use Rattle.{sim_lists.specs.StepLists.IsStep, sim_session.specs.SessionText.lines_of};
 ghost use Rattle.std.specs.Prelude.{◌≡◌, ℕ, ◌+◌, ◌^◌, ◌<◌, ◌≤◌, List, [], ◌∷◌, ◌++◌, length, IfOk, OnOk, string_bytes};
 ghost use Rattle.sim_live.specs.{LineWords.IsLine, Live.answer as answer_of, Live.answer_to, Live.next, Live.steps_with};
 ghost use Rattle.sim_plain_session.specs.{Printed.events as events_in, Sessions.session as session_over};
-ghost use Rattle.sim_session.specs.SessionWords.{clients_in, IsSession, MayFinish, room_in, seen_in, setup_in, spare_in};
+ghost use Rattle.sim_live.specs.Answering.{Counts, Follows};
+ghost use Rattle.sim_session.specs.SessionWords.{seen_in, setup_in};
 
 use crate::line::{Line, line_of};
 use crate::looking::push_look;
@@ -22,23 +23,13 @@ pub fn answer(
     made: u64,
     line: &[u8],
 ) -> Result<(String, u64), OutOfMemory>
-    requires session { IsSession session.old ⟦<dyn System as System>⟧ }
-    requires some { StandsForSome (setup_in session.old) (seen_in session.old) }
+    requires on { IsOn ⟦<dyn System as System>⟧ session.old }
     requires count { made + 1 < 2 ^ 64 }
     ensures text { IfOk result (λ told. (clients : ℕ) (steps : List AnyStep) → clients ≤ (setup_in session.old).players → made ≡ length steps
         → StandsFor (setup_in session.old) (seen_in session.old) (session_over (setup_in session.old) clients steps)
         → string_bytes told.0 ≡ answer_of (setup_in session.old) clients steps line.now) }
-    ensures count { IfOk result (λ told. (steps : List AnyStep) → made ≡ length steps → told.1 ≡ length (next (setup_in session.old) steps line.now)) }
-    ensures few { IfOk result (λ told. told.1 ≤ made + 1) }
-    ensures stands { OnOk result ((clients : ℕ) (steps : List AnyStep) → clients ≤ (setup_in session.old).players
-        → StandsFor (setup_in session.old) (seen_in session.old) (session_over (setup_in session.old) clients steps)
-        → StandsFor (setup_in session.old) (seen_in session.new) (session_over (setup_in session.old) clients (next (setup_in session.old) steps line.now))) }
-    ensures session { OnOk result (IsSession session.new ⟦<dyn System as System>⟧) }
-    ensures finish { MayFinish session.new ⟦<dyn System as System>⟧ }
-    ensures setup { setup_in session.new ≡ setup_in session.old }
-    ensures spare { spare_in session.new ≡ spare_in session.old }
-    ensures room { room_in session.new ≡ room_in session.old }
-    ensures clients { length (clients_in session.new) ≡ length (clients_in session.old) }
+    ensures count { IfOk result (λ told. Counts made (λ steps. next (setup_in session.old) steps line.now) told.1) }
+    ensures follows { Follows ⟦<dyn System as System>⟧ (λ steps. next (setup_in session.old) steps line.now) result session.old session.new }
 {
     let asked = line_of(alloc, session.setup().players, line)?;
     let mut text = String::new(alloc);
@@ -53,24 +44,14 @@ fn push_answer(
     asked: &Line,
     out: &mut String,
 ) -> Result<u64, OutOfMemory>
-    requires session { IsSession session.old ⟦<dyn System as System>⟧ }
-    requires some { StandsForSome (setup_in session.old) (seen_in session.old) }
+    requires on { IsOn ⟦<dyn System as System>⟧ session.old }
     requires line { IsLine (setup_in session.old).players asked.now }
     requires count { made + 1 < 2 ^ 64 }
     ensures text { OnOk result ((clients : ℕ) (steps : List AnyStep) → clients ≤ (setup_in session.old).players → made ≡ length steps
         → StandsFor (setup_in session.old) (seen_in session.old) (session_over (setup_in session.old) clients steps)
         → string_bytes out.new ≡ string_bytes out.old ++ answer_to (setup_in session.old) clients steps asked.now) }
-    ensures count { IfOk result (λ count. (steps : List AnyStep) → made ≡ length steps → count ≡ length (steps_with steps asked.now)) }
-    ensures few { IfOk result (λ count. count ≤ made + 1) }
-    ensures stands { OnOk result ((clients : ℕ) (steps : List AnyStep) → clients ≤ (setup_in session.old).players
-        → StandsFor (setup_in session.old) (seen_in session.old) (session_over (setup_in session.old) clients steps)
-        → StandsFor (setup_in session.old) (seen_in session.new) (session_over (setup_in session.old) clients (steps_with steps asked.now))) }
-    ensures session { OnOk result (IsSession session.new ⟦<dyn System as System>⟧) }
-    ensures finish { MayFinish session.new ⟦<dyn System as System>⟧ }
-    ensures setup { setup_in session.new ≡ setup_in session.old }
-    ensures spare { spare_in session.new ≡ spare_in session.old }
-    ensures room { room_in session.new ≡ room_in session.old }
-    ensures clients { length (clients_in session.new) ≡ length (clients_in session.old) }
+    ensures count { IfOk result (Counts made (λ steps. steps_with steps asked.now)) }
+    ensures follows { Follows ⟦<dyn System as System>⟧ (λ steps. steps_with steps asked.now) result session.old session.new }
 {
     match asked {
         Line::Step { step } => {
@@ -92,22 +73,13 @@ fn push_answer(
 
 // Makes a step, and appends the lines of its events.
 fn push_step(session: &mut Session<'_>, step: &Step, out: &mut String) -> Result<(), OutOfMemory>
-    requires session { IsSession session.old ⟦<dyn System as System>⟧ }
-    requires some { StandsForSome (setup_in session.old) (seen_in session.old) }
+    requires on { IsOn ⟦<dyn System as System>⟧ session.old }
     requires step { IsStep (setup_in session.old).players step.now }
     ensures text { OnOk result ((clients : ℕ) (steps : List AnyStep) → clients ≤ (setup_in session.old).players
         → StandsFor (setup_in session.old) (seen_in session.old) (session_over (setup_in session.old) clients steps)
         → string_bytes out.new ≡ string_bytes out.old ++ lines_of (events_in (setup_in session.old) (session_over (setup_in session.old) clients steps)
         step.now)) }
-    ensures stands { OnOk result ((clients : ℕ) (steps : List AnyStep) → clients ≤ (setup_in session.old).players
-        → StandsFor (setup_in session.old) (seen_in session.old) (session_over (setup_in session.old) clients steps)
-        → StandsFor (setup_in session.old) (seen_in session.new) (session_over (setup_in session.old) clients (steps ++ step.now ∷ []))) }
-    ensures session { OnOk result (IsSession session.new ⟦<dyn System as System>⟧) }
-    ensures finish { MayFinish session.new ⟦<dyn System as System>⟧ }
-    ensures setup { setup_in session.new ≡ setup_in session.old }
-    ensures spare { spare_in session.new ≡ spare_in session.old }
-    ensures room { room_in session.new ≡ room_in session.old }
-    ensures clients { length (clients_in session.new) ≡ length (clients_in session.old) }
+    ensures follows { Follows ⟦<dyn System as System>⟧ (λ steps. steps ++ step.now ∷ []) result session.old session.new }
 {
     let events = session.step(step)?;
     push_events(&events, out)

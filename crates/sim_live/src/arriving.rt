@@ -1,7 +1,8 @@
 //! What arrives by a line: bytes of a client, or the end of its connection, as a schedule spells them. A schedule can spell messages in
 //! words too; who relays has them as bytes, and a line with words is refused.
 
-ghost use Rattle.std.specs.Prelude.{◌≡◌, IfSome, IfOk};
+ghost use Rattle.std.specs.Prelude.{◌≡◌, IfSome};
+ghost use Rattle.sim_live.specs.Reading.{Reads};
 ghost use Rattle.serde_json.specs.View.{view};
 ghost use Rattle.sim_live.specs.Arrived.{arriving_in as arriving_in_data, arriving_of as arriving_of_bytes, IsFromOne, told_of};
 
@@ -23,8 +24,7 @@ pub enum Arriving {
 
 /// What arrives by a line from one of so many clients, or None where the line is no arrival.
 pub fn arriving_of(alloc: Global, clients: u8, line: &[u8]) -> Result<Option<Arriving>, OutOfMemory>
-    ensures value { IfOk result (λ found. found ≡ arriving_of_bytes clients line.now) }
-    ensures limits { IfOk result (λ found. IfSome found (IsFromOne clients)) }
+    ensures { Reads (λ found. IfSome found (IsFromOne clients)) (arriving_of_bytes clients line.now) result }
 {
     match value_of(alloc, line)? {
         Some(value) => arriving_in(alloc, clients, &value),
@@ -33,8 +33,7 @@ pub fn arriving_of(alloc: Global, clients: u8, line: &[u8]) -> Result<Option<Arr
 }
 
 fn arriving_in(alloc: Global, clients: u8, value: &Value) -> Result<Option<Arriving>, OutOfMemory>
-    ensures value { IfOk result (λ found. found ≡ arriving_in_data clients (view value.now)) }
-    ensures limits { IfOk result (λ found. IfSome found (IsFromOne clients)) }
+    ensures { Reads (λ found. IfSome found (IsFromOne clients)) (arriving_in_data clients (view value.now)) result }
 {
     match arrival_of(alloc, clients, value)? {
         Some(arrival) => Ok(told(arrival)),

@@ -1,6 +1,6 @@
 //! What a line asks for: a step of the session, or a look at it. Any other line asks for nothing.
 
-ghost use Rattle.std.specs.Prelude.{◌≡◌, IfOk};
+ghost use Rattle.sim_live.specs.Reading.{Reads};
 ghost use Rattle.serde_json.specs.View.{view};
 ghost use Rattle.sim_live.specs.LineWords.{IsLine, line_in as line_in_data, line_of as line_of_bytes};
 
@@ -24,8 +24,7 @@ pub enum Line {
 
 /// What a line asks for in a session of so many players.
 pub fn line_of(alloc: Global, players: u8, line: &[u8]) -> Result<Line, OutOfMemory>
-    ensures value { IfOk result (λ found. found ≡ line_of_bytes players line.now) }
-    ensures limits { IfOk result (IsLine players) }
+    ensures { Reads (IsLine players) (line_of_bytes players line.now) result }
 {
     match value_of(alloc, line)? {
         Some(value) => line_in(alloc, players, &value),
@@ -34,8 +33,7 @@ pub fn line_of(alloc: Global, players: u8, line: &[u8]) -> Result<Line, OutOfMem
 }
 
 fn line_in(alloc: Global, players: u8, value: &Value) -> Result<Line, OutOfMemory>
-    ensures value { IfOk result (λ found. found ≡ line_in_data players (view value.now)) }
-    ensures limits { IfOk result (IsLine players) }
+    ensures { Reads (IsLine players) (line_in_data players (view value.now)) result }
 {
     if let Some(step) = step_of(alloc, players, value)? {
         return Ok(Line::Step { step });

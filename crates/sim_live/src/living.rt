@@ -1,12 +1,12 @@
 //! The whole talk: the session begins, each line is answered before the next one is heard, and at the end of the input it is told what
 //! the session has come to. However it ends, all that was told is written then.
 
-ghost use Rattle.{sim_base.specs.Limits.IsSetup, sim_base.specs.declared.step.Step.Step as AnyStep, sim_session.specs.Standing.StandsFor};
-ghost use Rattle.{sim_client.specs.StageWords.AreCleared, sim_plain_session.specs.Sessions.opened, sim_plain_session.specs.Sessions.session as session_over};
-ghost use Rattle.{sim_system.specs.Meanings.HaveKinds, sim_talk.specs.Dialogues.Causes, sim_talk.specs.Dialogues.TellsText};
-ghost use Rattle.std.specs.Prelude.{◌≡◌, ◌≤◌, List, [], length, drop, OnOk, vec_capacity, All};
+ghost use Rattle.{sim_base.specs.declared.step.Step.Step as AnyStep, sim_session.specs.Standing.StandsFor};
+ghost use Rattle.{sim_plain_session.specs.Sessions.session as session_over, sim_talk.specs.Dialogues.Causes, sim_talk.specs.Dialogues.TellsText};
+ghost use Rattle.std.specs.Prelude.{◌≡◌, ◌≤◌, List, []};
 ghost use Rattle.sim_live.specs.{Live.first_text, Live.last_text, Live.Lives, Spoken.AnswersAll};
-ghost use Rattle.sim_session.specs.SessionWords.{clients_in, IsSession, MayFinish, rigs_of, room_in, seen_in, setup_in, spare_in};
+ghost use Rattle.sim_session.specs.Going.{ComeBack, GoesOn, HasOpened, Keeps, MayBegin};
+ghost use Rattle.sim_session.specs.SessionWords.{IsSession, seen_in, setup_in};
 
 use crate::answering::answer;
 use sim_base::{OutOfMemory, Setup};
@@ -26,18 +26,12 @@ pub fn live<T: Talk>(
     talk: &mut T,
     rigs: Vec<Rig>,
 ) -> (Result<(), TalkFault>, Vec<Rig>)
-    requires limits { IsSetup setup.now }
+    requires begins { MayBegin ⟦<dyn System as System>⟧ setup.now rigs.items }
     requires clients { clients ≤ setup.now.players }
-    requires eight { length rigs.items ≡ 8 }
-    requires kinds { All HaveKinds (rigs_of rigs.items ⟦<dyn System as System>⟧) }
-    requires cleared { All AreCleared (rigs_of rigs.items ⟦<dyn System as System>⟧) }
     ensures lives { Lives result.0 setup.now clients (T.history talk.old) (T.history talk.new) }
     ensures settled { (T.history talk.new).kept ≡ [] }
     ensures causes { Causes result.0 (T.history talk.old) (T.history talk.new) }
-    ensures kinds { All HaveKinds (rigs_of result.1.items ⟦<dyn System as System>⟧) }
-    ensures spare { drop setup.now.players result.1.items ≡ drop setup.now.players rigs.items }
-    ensures eight { length result.1.items ≡ 8 }
-    ensures room { vec_capacity result.1 ≡ vec_capacity rigs }
+    ensures rigs { ComeBack ⟦<dyn System as System>⟧ setup.now rigs result.1 }
 {
     match Session::new(alloc, setup, orders, rigs) {
         Ok(mut session) => {
@@ -56,15 +50,9 @@ fn talk_over<T: Talk>(
     clients: u8,
     talk: &mut T,
 ) -> Result<(), TalkFault>
-    requires session { IsSession session.old ⟦<dyn System as System>⟧ }
-    requires clients { clients ≤ (setup_in session.old).players }
-    requires opened { StandsFor (setup_in session.old) (seen_in session.old) (opened (setup_in session.old) 0) }
+    requires { HasOpened ⟦<dyn System as System>⟧ 0 clients session.old }
     ensures lives { Lives result (setup_in session.old) clients (T.history talk.old) (T.history talk.new) }
-    ensures finish { MayFinish session.new ⟦<dyn System as System>⟧ }
-    ensures setup { setup_in session.new ≡ setup_in session.old }
-    ensures spare { spare_in session.new ≡ spare_in session.old }
-    ensures room { room_in session.new ≡ room_in session.old }
-    ensures count { length (clients_in session.new) ≡ length (clients_in session.old) }
+    ensures keeps { Keeps ⟦<dyn System as System>⟧ session.old session.new }
 {
     session.start(clients)?;
     tell_starts(alloc, session, clients, talk)?;
@@ -79,9 +67,7 @@ fn tell_starts<T: Talk>(
     clients: u8,
     talk: &mut T,
 ) -> Result<(), TalkFault>
-    requires session { IsSession session.now ⟦<dyn System as System>⟧ }
-    requires clients { clients ≤ (setup_in session.now).players }
-    requires opened { StandsFor (setup_in session.now) (seen_in session.now) (opened (setup_in session.now) clients) }
+    requires { HasOpened ⟦<dyn System as System>⟧ clients clients session.now }
     ensures { TellsText result (first_text (setup_in session.now) clients) (T.history talk.old) (T.history talk.new) }
 {
     let mut text = String::new(alloc);
@@ -97,16 +83,9 @@ fn answer_all<T: Talk>(
     clients: u8,
     talk: &mut T,
 ) -> Result<(), TalkFault>
-    requires session { IsSession session.old ⟦<dyn System as System>⟧ }
-    requires clients { clients ≤ (setup_in session.old).players }
-    requires opened { StandsFor (setup_in session.old) (seen_in session.old) (opened (setup_in session.old) clients) }
+    requires { HasOpened ⟦<dyn System as System>⟧ clients clients session.old }
     ensures answers { AnswersAll result (setup_in session.old) clients (seen_in session.new) (T.history talk.old) (T.history talk.new) }
-    ensures session { OnOk result (IsSession session.new ⟦<dyn System as System>⟧) }
-    ensures finish { MayFinish session.new ⟦<dyn System as System>⟧ }
-    ensures setup { setup_in session.new ≡ setup_in session.old }
-    ensures spare { spare_in session.new ≡ spare_in session.old }
-    ensures room { room_in session.new ≡ room_in session.old }
-    ensures count { length (clients_in session.new) ≡ length (clients_in session.old) }
+    ensures goes { GoesOn ⟦<dyn System as System>⟧ result session.old session.new }
 {
     let mut line = Vec::new(alloc);
     let mut made = 0;

@@ -1,6 +1,7 @@
 //! Lines that only look: a word, and the client that it is about.
 
-ghost use Rattle.std.specs.Prelude.{◌≡◌, map, IfSome};
+ghost use Rattle.std.specs.Prelude.{◌≡◌, map};
+ghost use Rattle.sim_live.specs.Reading.{Finds};
 ghost use Rattle.serde_json.specs.View.{view};
 ghost use Rattle.sim_live.specs.Looks.{bare_look as bare_look_of, IsLook, look_at as look_at_word, look_in as look_in_data, look_of as look_of_data};
 
@@ -24,15 +25,13 @@ pub enum Look {
 
 /// A look at one of so many players, or None where the item is none.
 pub fn look_of(players: u8, item: &Value) -> Option<Look>
-    ensures look { result ≡ look_of_data players (view item.now) }
-    ensures limits { IfSome result (IsLook players) }
+    ensures { Finds (IsLook players) (look_of_data players (view item.now)) result }
 {
     look_in(players, list_of(item)?)
 }
 
 fn look_in(players: u8, items: &[Value]) -> Option<Look>
-    ensures look { result ≡ look_in_data players (map view items.now) }
-    ensures limits { IfSome result (IsLook players) }
+    ensures { Finds (IsLook players) (look_in_data players (map view items.now)) result }
 {
     match items {
         [word] => bare_look(word.as_str()?),
@@ -64,8 +63,7 @@ fn bare_look(word: &str) -> Option<Look>
 
 // A look at a client.
 fn look_at(players: u8, word: &str, client: &Value) -> Option<Look>
-    ensures look { result ≡ look_at_word players word.now (view client.now) }
-    ensures limits { IfSome result (IsLook players) }
+    ensures { Finds (IsLook players) (look_at_word players word.now (view client.now)) result }
 {
     let client = natural_in(client, 1, u64::from(players))? as u8;
     if word == "digest" {

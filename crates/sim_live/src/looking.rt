@@ -1,8 +1,9 @@
 //! What is answered to a look. A client that is not on has no state, and is told as it would be in the end.
 
-ghost use Rattle.{sim_base.specs.Validity.IsValid, sim_plain_session.specs.Sessions.Session as PlainSession, sim_session.specs.Seen.end_seen};
+ghost use Rattle.{sim_base.specs.Validity.IsValid, sim_plain_session.specs.Sessions.Session as PlainSession};
+ghost use Rattle.sim_session.specs.Seen.{end_seen, IsMember};
 ghost use Rattle.std.specs.Prelude.{◌≡◌, ◌++◌, OnOk, string_bytes};
-ghost use Rattle.sim_client.specs.ClientWords.{IsSound, life, setup_in as client_setup_in, state_of};
+ghost use Rattle.sim_client.specs.ClientWords.{life, state_of};
 ghost use Rattle.sim_live.specs.{Looks.IsLook, Shown.bytes_line, Shown.look_text, Shown.shown_as, Shown.told_as};
 ghost use Rattle.sim_session.specs.{SessionWords.IsSession, SessionWords.seen_in, SessionWords.setup_in, Standing.StandsFor};
 
@@ -39,8 +40,7 @@ fn push_shown(
     setup: &Setup,
     out: &mut String,
 ) -> Result<(), OutOfMemory>
-    requires sound { IsSound client.now ⟦<dyn System as System>⟧ }
-    requires same { client_setup_in client.now ≡ setup.now }
+    requires { IsMember setup.now ⟦<dyn System as System>⟧ client.now }
     ensures { OnOk result (string_bytes out.new ≡ string_bytes out.old ++ shown_as setup.now number (end_seen setup.now (life client.now))
         (state_of (life client.now))) }
 {
@@ -57,8 +57,7 @@ fn push_told(
     setup: &Setup,
     out: &mut String,
 ) -> Result<(), OutOfMemory>
-    requires sound { IsSound client.now ⟦<dyn System as System>⟧ }
-    requires same { client_setup_in client.now ≡ setup.now }
+    requires { IsMember setup.now ⟦<dyn System as System>⟧ client.now }
     ensures { OnOk result (string_bytes out.new ≡ string_bytes out.old ++ told_as setup.now number (end_seen setup.now (life client.now))
         (state_of (life client.now))) }
 {

@@ -2,8 +2,9 @@
 
 ghost use Rattle.{sim_plain.specs.Messages.Arrival as PlainArrival, sim_wire.specs.Fits.IsSmallDown, sim_wire.specs.Heard.raw};
 ghost use Rattle.std.specs.Prelude.{◌≡◌, ℕ, ◌+◌, ◌^◌, ◌<◌, ◌≤◌, List, ◌++◌, length, IfOk, OnOk, string_bytes, All, flat_map};
+ghost use Rattle.sim_live.specs.Answering.{Counts, Says, StaysSmall};
 ghost use Rattle.sim_live.specs.{Arrived.IsFromOne, Arrived.plain_of, Relays.answer as answer_of, Relays.frame_line, Relays.next};
-ghost use Rattle.sim_server.specs.{Small.IsSmallServer, Standing.Answers, Standing.IsClient, Standing.server_of, Standing.StandsFor};
+ghost use Rattle.sim_server.specs.{Small.IsSmallServer, Standing.IsClient, Standing.server_of, Standing.StandsFor};
 
 use crate::arriving::{Arriving, arriving_of};
 use sim_base::OutOfMemory;
@@ -27,12 +28,10 @@ pub fn reply(
     requires count { heard + 1 < 2 ^ 64 }
     ensures text { IfOk result (λ told. (active : ℕ) (h : List (PlainArrival (List ℕ))) → heard ≡ length h → StandsFor server.old active h
         → string_bytes told.0 ≡ answer_of server.old.rules active h line.now) }
-    ensures count { IfOk result (λ told. (h : List (PlainArrival (List ℕ))) → heard ≡ length h → told.1 ≡ length (next server.old.rules h line.now)) }
-    ensures few { IfOk result (λ told. told.1 ≤ heard + 1) }
+    ensures count { IfOk result (λ told. Counts heard (λ h. next server.old.rules h line.now) told.1) }
     ensures stands { OnOk result ((active : ℕ) (h : List (PlainArrival (List ℕ))) → StandsFor server.old active h
         → StandsFor server.new active (next server.old.rules h line.now)) }
-    ensures small { IsSmallServer (server_of server.new) }
-    ensures rules { server.new.rules ≡ server.old.rules }
+    ensures stays { StaysSmall server.old server.new }
 {
     let mut text = String::new(alloc);
     let Some(arriving) = arriving_of(alloc, clients, line)? else {
@@ -49,11 +48,7 @@ pub fn reply(
 fn arrive(server: &mut Server, arriving: Arriving) -> Result<Posts, OutOfMemory>
     requires from { IsFromOne server.old.rules.clients arriving }
     requires small { IsSmallServer (server_of server.old) }
-    ensures answers { (active : ℕ) (h : List (PlainArrival (List ℕ))) → StandsFor server.old active h
-        → Answers server.old active h (plain_of arriving) result server.new }
-    ensures posts { IfOk result (All (λ post. IsSmallDown post.down)) }
-    ensures small { IsSmallServer (server_of server.new) }
-    ensures rules { server.new.rules ≡ server.old.rules }
+    ensures { Says (plain_of arriving) result server.old server.new }
 {
     match arriving {
         Arriving::Frame { from, bytes } => hear(server, from, bytes.as_slice()),
@@ -65,11 +60,7 @@ fn arrive(server: &mut Server, arriving: Arriving) -> Result<Posts, OutOfMemory>
 fn hear(server: &mut Server, from: u8, bytes: &[u8]) -> Result<Posts, OutOfMemory>
     requires from { IsClient server.old from }
     requires small { IsSmallServer (server_of server.old) }
-    ensures answers { (active : ℕ) (h : List (PlainArrival (List ℕ))) → StandsFor server.old active h
-        → Answers server.old active h (raw from bytes.now) result server.new }
-    ensures posts { IfOk result (All (λ post. IsSmallDown post.down)) }
-    ensures small { IsSmallServer (server_of server.new) }
-    ensures rules { server.new.rules ≡ server.old.rules }
+    ensures { Says (raw from bytes.now) result server.old server.new }
 {
     server.hear_frame(from, bytes)
 }

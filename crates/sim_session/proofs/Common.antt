@@ -1,5 +1,6 @@
 -- The words that the proofs here name again and again, passed on from one place. Declares nothing.
-pub use Rattle.{sim_board.specs.BoardWords.AreKept, sim_board.specs.declared.board.Board.Board, std.proofs.Common.sym, std.proofs.Common.◌∙◌}
+pub use Rattle.{sim_board.specs.BoardWords.AreKept, sim_board.specs.declared.board.Board.Board}
+pub use Rattle.{std.proofs.Common.rules, std.proofs.Common.sym, std.proofs.Common.◌∙◌}
 pub use Rattle.{sim_plain.proofs.Statuses.put_other, sim_server.specs.Standing.IsClient}
 pub use Rattle.std.proofs.{Math.Seq.get_or-append_seam, lemmas.List.map-set, lemmas.List.replicate-append-replicate, lemmas.Option.none-some}
 pub use Rattle.std.proofs.Common.{add-one, ap, append-nil, append_assoc, arith, get_or-set_other, get_or-set_same, inl, inr, length-append, length-drop, subst}
@@ -25,6 +26,7 @@ pub use Rattle.sim_plain.{specs.Functions.put, specs.Messages.carry_down, specs.
 pub use Rattle.sim_plain_session.specs.{Bytes.spelled, Clients.Acted, Clients.begun, Clients.Down, Clients.Phase, Clients.Up, Players.Player}
 pub use Rattle.sim_plain_session.specs.{Pasts.is_client, Printed.events, Printed.events_by, Printed.fall_events, Printed.leave_events, Printed.rise_events}
 pub use Rattle.sim_plain_session.specs.Sessions.{acts, client_of, cut, falls, is_active, leaves, opened, rises, Session, session, stepped, stepped_by}
+pub use Rattle.sim_session.specs.Acting.{ActsBy, LoadsBy, MayActBy, MayHearBy}
 pub use Rattle.sim_session.specs.Building.{AreBuilt, AreBuiltIf, ChangeAt, has_load, StartsOnly}
 pub use Rattle.sim_session.specs.Printing.{has_happened, heard_events, is_off, is_state, played_events, refusal_in, said_events}
 pub use Rattle.sim_session.specs.SessionWords.{AreMembersBy, AreOfClients, IsMemberBy, lives_of, rigs_by, systems_by}

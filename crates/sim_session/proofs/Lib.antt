@@ -2,6 +2,7 @@ pub mod Common
 pub mod Seating
 pub mod Stepping
 pub mod Beside
+pub mod Acted
 pub mod Idling
 pub mod Heard
 pub mod Starting
@@ -18,6 +19,7 @@ pub mod NextClients
 pub mod Beginning
 pub mod MoreSteps
 pub mod Coming
+pub mod Keeping
 pub mod HostTelling
 pub mod Loads
 pub mod Builds

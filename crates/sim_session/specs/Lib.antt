@@ -2,6 +2,7 @@ pub mod Building
 pub mod Printing
 pub mod Standing
 pub mod SessionWords
+pub mod Acting
 pub mod Endings
 pub mod Pairs
 pub mod Pipes
@@ -9,6 +10,7 @@ pub mod SessionText
 pub mod Laws
 pub mod Seen
 pub mod Rigs
+pub mod Going
 pub mod Starts
 pub mod Recording
 pub mod Served

@@ -2,7 +2,7 @@
 use Rattle.{sim_base.specs.Spelling.digest, sim_base.specs.declared.setup.Setup.Setup, sim_server.specs.Standing.server_of}
 use Rattle.{sim_pipes.specs.Exchanges.Conveys, sim_pipes.specs.Exchanges.Held, sim_pipes.specs.Pipes.pipe_in, sim_system.specs.declared.system.System.Ghosts}
 use Rattle.{sim_plain_session.specs.Sessions.Session, sim_session.specs.Pairs.pair_apart, sim_session.specs.Pipes.pipe_line}
-use Rattle.std.specs.Prelude.{◌≡◌, ℕ, ◌-◌, ◌<◌, ◌≤◌, List, ◌++◌, map, slice_index_or, codes}
+use Rattle.std.specs.Prelude.{◌≡◌, ℕ, ◌-◌, ◌<◌, ◌≤◌, List, ◌++◌, map, length, slice_index_or, codes, All}
 use Rattle.sim_client.specs.{ClientWords.state_of, LifeLaws.Lives, Lives.Joining, Lives.Life, Lives.Off, Lives.On, declared.client.Client.Client}
 use Rattle.sim_session.specs.{Endings.end_line, Endings.told_of, SessionText.ending_lines, SessionText.server_lines, declared.ending.End.End}
 use Rattle.sim_client.specs.ClientWords as client
@@ -44,6 +44,12 @@ pub record IsMember {Y X : Type 0} {G : Y → Type 0} {F : X → Type 0} {M : _}
     Type 0 where
   pub sound : client.IsSound c sys
   pub same : client.setup_in c ≡ setup
+
+-- all are such clients, and no more than a match may have
+pub record MayBeTold {Y X : Type 0} {G : Y → Type 0} {F : X → Type 0} {M : _} (setup : Setup) (sys : (i : X) → Ghosts (F i))
+    (clients : List (Client Y X G F M)) : Type 0 where
+  pub members : All (IsMember setup sys) clients
+  pub few : length clients ≤ 8
 
 -- each client of a match stands for that of a session
 abbrev pub AllLive : Setup → (ℕ → Life) → Session → Type 0

@@ -1,15 +1,15 @@
 //! The kinds of step, each by one client beside the server and the pipes.
 
-ghost use Rattle.{sim_base.specs.Limits.HasFewIds, sim_base.specs.declared.setup.Setup.Setup as AnySetup, sim_board.specs.BoardWords.AreKept};
+ghost use Rattle.{sim_base.specs.Limits.HasFewIds, sim_base.specs.declared.setup.Setup.Setup as AnySetup};
 ghost use Rattle.{sim_pipes.specs.Exchanges.Conveys, sim_plain.specs.Messages.carry_up, sim_wire.specs.Fits.IsSmallUp};
 ghost use Rattle.{sim_plain_session.specs.Bytes.spelled, sim_plain_session.specs.Clients.Acted, sim_server.specs.Standing.IsClient};
 ghost use Rattle.std.specs.Prelude.{◌≡◌, true, false, [], map, IfOk, OnOk, IsOk, None, All};
-ghost use Rattle.sim_client.specs.{ClientWords.HasDigest, ClientWords.IsSound, ClientWords.life, ClientWords.setup_in, ClientWords.systems, LifeLaws.shows};
+ghost use Rattle.sim_client.specs.{ClientWords.HasDigest, ClientWords.IsSound, ClientWords.life, ClientWords.setup_in, LifeLaws.shows};
 ghost use Rattle.sim_client.specs.Lives.{bends, joins, orders, plays};
 ghost use Rattle.sim_plain_session.specs.{Printed.events_by, Sessions.acts, Sessions.client_of as client_in, Sessions.Session, Sessions.stepped_by};
-ghost use Rattle.sim_session.specs.Building.{AreBuilt, AreBuiltIf, has_load};
+ghost use Rattle.sim_session.specs.Acting.{Acts, Loads, MayAct, MayHear};
 ghost use Rattle.sim_session.specs.Printing.{has_happened, is_off as is_off_of, played_events, said_events as events_said};
-ghost use Rattle.sim_session.specs.Standing.{HasValidStates, IsSmallStep, Makes, said_by, StandBeside};
+ghost use Rattle.sim_session.specs.Standing.{IsSmallStep, said_by, StandBeside};
 ghost use Rattle.sim_base.specs.declared.step.Event.TheVariants as event;
 ghost use Rattle.sim_base.specs.declared.step.Step.TheVariants as step;
 
@@ -59,16 +59,10 @@ fn order(
     number: u8,
     command: &Command,
 ) -> Result<Events, OutOfMemory>
-    requires sound { IsSound client.old ⟦<dyn System as System>⟧ }
-    requires client { IsClient exchange.old.server number }
+    requires may { MayAct ⟦<dyn System as System>⟧ number client.old exchange.old }
     requires few { HasFewIds command.now }
-    ensures made { IfOk result (λ events. Makes (setup_in client.old) (step.Order number command.now) (life client.old) exchange.old (life client.new)
-        exchange.new events) }
-    ensures idle { orders (setup_in client.old) command.now (life client.old) ≡ None → IsOk result }
-    ensures sound { OnOk result (IsSound client.new ⟦<dyn System as System>⟧) }
-    ensures kept { AreKept (systems client.old ⟦<dyn System as System>⟧) (systems client.new ⟦<dyn System as System>⟧) }
-    ensures setup { setup_in client.new ≡ setup_in client.old }
-    ensures rules { exchange.new.server.rules ≡ exchange.old.server.rules }
+    ensures { Acts ⟦<dyn System as System>⟧ (step.Order number command.now) (orders (setup_in client.old) command.now (life client.old) ≡ None) result
+        client.old exchange.old client.new exchange.new }
 {
     let did = client.order(command)?;
     let ups = ups_of(alloc, did);
@@ -114,14 +108,9 @@ fn play(
     digests: &mut Digests,
     number: u8,
 ) -> Result<Events, OutOfMemory>
-    requires sound { IsSound client.old ⟦<dyn System as System>⟧ }
-    requires client { IsClient exchange.old.server number }
-    ensures made { IfOk result (λ events. Makes (setup_in client.old) (step.Play number) (life client.old) exchange.old (life client.new) exchange.new events) }
-    ensures idle { plays (setup_in client.old) (life client.old) ≡ None → IsOk result }
-    ensures sound { OnOk result (IsSound client.new ⟦<dyn System as System>⟧) }
-    ensures kept { AreKept (systems client.old ⟦<dyn System as System>⟧) (systems client.new ⟦<dyn System as System>⟧) }
-    ensures setup { setup_in client.new ≡ setup_in client.old }
-    ensures rules { exchange.new.server.rules ≡ exchange.old.server.rules }
+    requires { MayAct ⟦<dyn System as System>⟧ number client.old exchange.old }
+    ensures { Acts ⟦<dyn System as System>⟧ (step.Play number) (plays (setup_in client.old) (life client.old) ≡ None) result client.old exchange.old
+        client.new exchange.new }
 {
     let made = client.play_beside(digests)?;
     let Played { did, digest } = made;
@@ -138,14 +127,8 @@ fn join(
     exchange: &mut Exchange,
     number: u8,
 ) -> Result<Events, OutOfMemory>
-    requires sound { IsSound client.old ⟦<dyn System as System>⟧ }
-    requires client { IsClient exchange.old.server number }
-    ensures made { IfOk result (λ events. Makes (setup_in client.old) (step.Join number) (life client.old) exchange.old (life client.new) exchange.new events) }
-    ensures idle { joins (life client.old) ≡ None → IsOk result }
-    ensures sound { OnOk result (IsSound client.new ⟦<dyn System as System>⟧) }
-    ensures kept { AreKept (systems client.old ⟦<dyn System as System>⟧) (systems client.new ⟦<dyn System as System>⟧) }
-    ensures setup { setup_in client.new ≡ setup_in client.old }
-    ensures rules { exchange.new.server.rules ≡ exchange.old.server.rules }
+    requires { MayAct ⟦<dyn System as System>⟧ number client.old exchange.old }
+    ensures { Acts ⟦<dyn System as System>⟧ (step.Join number) (joins (life client.old) ≡ None) result client.old exchange.old client.new exchange.new }
 {
     let did = client.join()?;
     let ups = ups_of(alloc, did);
@@ -182,12 +165,9 @@ fn bend(
     health: Fixed,
 ) -> Result<Events, OutOfMemory>
     requires sound { IsSound client.old ⟦<dyn System as System>⟧ }
-    ensures made { IfOk result (λ events. Makes (setup_in client.old) (step.Bend number entity health) (life client.old) exchange.now (life client.new)
-        exchange.now events) }
-    ensures idle { bends (setup_in client.old) entity health (life client.old) ≡ None → IsOk result }
+    ensures acts { Acts ⟦<dyn System as System>⟧ (step.Bend number entity health) (bends (setup_in client.old) entity health (life client.old) ≡ None)
+        result client.old exchange.now client.new exchange.now }
     ensures sound { IsSound client.new ⟦<dyn System as System>⟧ }
-    ensures kept { AreKept (systems client.old ⟦<dyn System as System>⟧) (systems client.new ⟦<dyn System as System>⟧) }
-    ensures setup { setup_in client.new ≡ setup_in client.old }
 {
     if !client.bend(entity, health) {
         return Ok(Items::new(alloc));
@@ -210,14 +190,9 @@ fn cut(
     exchange: &mut Exchange,
     number: u8,
 ) -> Result<Events, OutOfMemory>
-    requires sound { IsSound client.old ⟦<dyn System as System>⟧ }
-    requires client { IsClient exchange.old.server number }
-    ensures made { IfOk result (λ events. Makes (setup_in client.old) (step.Cut number) (life client.old) exchange.old (life client.new) exchange.new events) }
-    ensures idle { is_off_of (life client.old) ≡ true → IsOk result }
+    requires { MayAct ⟦<dyn System as System>⟧ number client.old exchange.old }
+    ensures acts { Acts ⟦<dyn System as System>⟧ (step.Cut number) (is_off_of (life client.old) ≡ true) result client.old exchange.old client.new exchange.new }
     ensures sound { IsSound client.new ⟦<dyn System as System>⟧ }
-    ensures kept { AreKept (systems client.old ⟦<dyn System as System>⟧) (systems client.new ⟦<dyn System as System>⟧) }
-    ensures setup { setup_in client.new ≡ setup_in client.old }
-    ensures rules { exchange.new.server.rules ≡ exchange.old.server.rules }
 {
     if is_off(client) {
         return Ok(Items::new(alloc));
@@ -250,23 +225,11 @@ pub fn act(
     digests: &mut Digests,
     step: &Step,
 ) -> Result<Events, OutOfMemory>
-    requires sound { IsSound client.old ⟦<dyn System as System>⟧ }
-    requires client { IsClient exchange.old.server (client_in step.now) }
+    requires may { MayHear ⟦<dyn System as System>⟧ (client_in step.now) client.old exchange.old }
     requires few { IsSmallStep step.now }
-    requires some { (s : Session) × HasValidStates (setup_in client.old) (client_in step.now) s × StandBeside (setup_in client.old) (client_in step.now)
-        (life client.old) exchange.old s }
-    ensures made { IfOk result (λ events. Makes (setup_in client.old) step.now (life client.old) exchange.old (life client.new) exchange.new events) }
-    ensures sound { OnOk result (IsSound client.new ⟦<dyn System as System>⟧) }
-    ensures built { IfOk result (λ events. AreBuiltIf (has_load events) (systems client.old ⟦<dyn System as System>⟧)
-        (systems client.new ⟦<dyn System as System>⟧)) }
-    ensures most { AreBuilt (systems client.old ⟦<dyn System as System>⟧) (systems client.new ⟦<dyn System as System>⟧) }
-    ensures loads { (s : Session) → StandBeside (setup_in client.old) (client_in step.now) (life client.old) exchange.old s
-        → AreBuiltIf (has_load (events_by (setup_in client.old) s step.now)) (systems client.old ⟦<dyn System as System>⟧)
-        (systems client.new ⟦<dyn System as System>⟧) }
+    ensures loads { Loads ⟦<dyn System as System>⟧ step.now result client.old exchange.old client.new exchange.new }
     ensures idle { (s : Session) → StandBeside (setup_in client.old) (client_in step.now) (life client.old) exchange.old s
         → events_by (setup_in client.old) s step.now ≡ [] → stepped_by (setup_in client.old) s step.now ≡ s → IsOk result }
-    ensures setup { setup_in client.new ≡ setup_in client.old }
-    ensures rules { exchange.new.server.rules ≡ exchange.old.server.rules }
 {
     match step {
         Step::Order {

@@ -3,7 +3,8 @@
 
 ghost use Rattle.{sim_base.specs.Rows.id_of, sim_bytes.specs.Rows.HasShortWay};
 ghost use Rattle.{sim_session.specs.Pairs.apart_line, sim_session.specs.Pairs.states_apart, std.specs.List.Sorted.IsStrictlyIncreasing};
-ghost use Rattle.std.specs.Prelude.{◌≡◌, ◌++◌, map, OnOk, OnErr, string_bytes, All};
+ghost use Rattle.sim_report.specs.Appending.{Appends};
+ghost use Rattle.std.specs.Prelude.{◌≡◌, ◌++◌, map, OnOk, string_bytes, All};
 
 use sim_base::{OutOfMemory, State};
 use sim_diff::{Place, difference};
@@ -11,8 +12,7 @@ use sim_report::part_name;
 
 /// Appends the line of two clients and of the first place at which their states differ, or leaves the text as it was.
 pub fn push_apart(left: u8, right: u8, place: &Place, out: &mut String) -> Result<(), OutOfMemory>
-    ensures ok { OnOk result (string_bytes out.new ≡ string_bytes out.old ++ apart_line left right place.now) }
-    ensures err { OnErr result (string_bytes out.new ≡ string_bytes out.old) }
+    ensures { Appends result out.old out.new (apart_line left right place.now) }
 {
     let mut line = String::new(*out.allocator());
     write_apart(left, right, place, &mut line)?;

@@ -1,8 +1,8 @@
 //! What a session has come to: its server, the clients that differ, what each client is, and what lies in the pipes.
 
 ghost use Rattle.{sim_client.specs.ClientWords.life, sim_pipes.specs.Pipes.pipe_in};
-ghost use Rattle.std.specs.Prelude.{◌≡◌, ◌≤◌, ◌++◌, length, OnOk, string_bytes, All};
-ghost use Rattle.sim_session.specs.Seen.{beside_seen, ending_seen, ends_seen, IsMember, life_at, pairs_seen, pipes_seen};
+ghost use Rattle.std.specs.Prelude.{◌≡◌, ◌≤◌, ◌++◌, length, OnOk, string_bytes};
+ghost use Rattle.sim_session.specs.Seen.{beside_seen, ending_seen, ends_seen, IsMember, life_at, MayBeTold, pairs_seen, pipes_seen};
 
 use crate::clients::{end_of, push_pair};
 use crate::ending::push_end;
@@ -21,8 +21,7 @@ pub fn push_ending(
     exchange: &Exchange,
     out: &mut String,
 ) -> Result<(), OutOfMemory>
-    requires members { All (IsMember setup.now ⟦<dyn System as System>⟧) clients.now }
-    requires few { length clients.now ≤ 8 }
+    requires clients { MayBeTold setup.now ⟦<dyn System as System>⟧ clients.now }
     requires served { length clients.now ≤ exchange.now.server.rules.clients }
     ensures { OnOk result (string_bytes out.new ≡ string_bytes out.old ++ ending_seen setup.now (life_at clients.now) exchange.now (length clients.now)) }
 {
@@ -34,8 +33,7 @@ pub fn push_ending(
 
 // Appends a line of each two clients that differ.
 fn push_pairs(setup: &Setup, clients: &[Client<'_>], out: &mut String) -> Result<(), OutOfMemory>
-    requires members { All (IsMember setup.now ⟦<dyn System as System>⟧) clients.now }
-    requires few { length clients.now ≤ 8 }
+    requires { MayBeTold setup.now ⟦<dyn System as System>⟧ clients.now }
     ensures { OnOk result (string_bytes out.new ≡ string_bytes out.old ++ pairs_seen (life_at clients.now) (length clients.now)) }
 {
     for (index, left) in clients.iter().enumerate() {
@@ -54,8 +52,7 @@ fn push_beside(
 ) -> Result<(), OutOfMemory>
     requires left { IsMember setup.now ⟦<dyn System as System>⟧ left.now }
     requires is { life left.now ≡ life_at clients.now number }
-    requires members { All (IsMember setup.now ⟦<dyn System as System>⟧) clients.now }
-    requires few { length clients.now ≤ 8 }
+    requires clients { MayBeTold setup.now ⟦<dyn System as System>⟧ clients.now }
     ensures { OnOk result (string_bytes out.new ≡ string_bytes out.old ++ beside_seen (life_at clients.now) (length clients.now) number) }
 {
     for (index, right) in clients.iter().enumerate() {
@@ -66,8 +63,7 @@ fn push_beside(
 
 // Appends a line of each client.
 fn push_ends(setup: &Setup, clients: &[Client<'_>], out: &mut String) -> Result<(), OutOfMemory>
-    requires members { All (IsMember setup.now ⟦<dyn System as System>⟧) clients.now }
-    requires few { length clients.now ≤ 8 }
+    requires { MayBeTold setup.now ⟦<dyn System as System>⟧ clients.now }
     ensures { OnOk result (string_bytes out.new ≡ string_bytes out.old ++ ends_seen setup.now (life_at clients.now) (length clients.now)) }
 {
     for (index, client) in clients.iter().enumerate() {

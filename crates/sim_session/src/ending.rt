@@ -1,6 +1,7 @@
 //! The line of what a client has come to.
 
-ghost use Rattle.std.specs.Prelude.{◌≡◌, ◌++◌, OnOk, OnErr, string_bytes};
+ghost use Rattle.sim_report.specs.Appending.{Appends};
+ghost use Rattle.std.specs.Prelude.{◌≡◌, ◌++◌, OnOk, string_bytes};
 ghost use Rattle.sim_session.specs.Endings.{end_line};
 
 use sim_base::OutOfMemory;
@@ -16,8 +17,7 @@ pub enum End {
 
 /// Appends the line of a client and of what it has come to, or leaves the text as it was.
 pub fn push_end(client: u8, end: &End, out: &mut String) -> Result<(), OutOfMemory>
-    ensures ok { OnOk result (string_bytes out.new ≡ string_bytes out.old ++ end_line client end.now) }
-    ensures err { OnErr result (string_bytes out.new ≡ string_bytes out.old) }
+    ensures { Appends result out.old out.new (end_line client end.now) }
 {
     let mut line = String::new(*out.allocator());
     write_end(client, end, &mut line)?;

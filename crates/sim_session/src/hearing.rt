@@ -1,10 +1,9 @@
 //! A client hears the first message in the pipe to it.
 
-ghost use Rattle.{sim_plain_session.specs.Printed.events_by, sim_plain_session.specs.Sessions.Session, sim_server.specs.Standing.IsClient};
-ghost use Rattle.std.specs.Prelude.{◌≡◌, [], IfOk, OnOk, IsOk};
-ghost use Rattle.sim_client.specs.{ClientWords.IsSound, ClientWords.life, ClientWords.setup_in, ClientWords.systems, LifeLaws.shows};
+ghost use Rattle.std.specs.Prelude.{◌≡◌, [], IfOk, IsOk};
+ghost use Rattle.sim_client.specs.{ClientWords.IsSound, ClientWords.life, ClientWords.setup_in, LifeLaws.shows};
 ghost use Rattle.sim_pipes.specs.Pipes.{pipe_in};
-ghost use Rattle.sim_session.specs.{Building.AreBuilt, Building.AreBuiltIf, Building.has_load, Standing.HasValidStates, Standing.Makes, Standing.StandBeside};
+ghost use Rattle.sim_session.specs.Acting.{Loads, MayHear};
 ghost use Rattle.sim_session.specs.Printing.{has_happened, heard_events, is_state as is_state_in, refusal_in};
 ghost use Rattle.sim_base.specs.declared.step.Event.TheVariants as event;
 ghost use Rattle.sim_base.specs.declared.step.Step.TheVariants as step;
@@ -93,20 +92,9 @@ pub fn down(
     exchange: &mut Exchange,
     number: u8,
 ) -> Result<Events, OutOfMemory>
-    requires sound { IsSound client.old ⟦<dyn System as System>⟧ }
-    requires client { IsClient exchange.old.server number }
-    requires some { (s : Session) × HasValidStates (setup_in client.old) number s × StandBeside (setup_in client.old) number (life client.old) exchange.old s }
-    ensures made { IfOk result (λ events. Makes (setup_in client.old) (step.Down number) (life client.old) exchange.old (life client.new) exchange.new events) }
-    ensures sound { OnOk result (IsSound client.new ⟦<dyn System as System>⟧) }
-    ensures built { IfOk result (λ events. AreBuiltIf (has_load events) (systems client.old ⟦<dyn System as System>⟧)
-        (systems client.new ⟦<dyn System as System>⟧)) }
-    ensures most { AreBuilt (systems client.old ⟦<dyn System as System>⟧) (systems client.new ⟦<dyn System as System>⟧) }
-    ensures loads { (s : Session) → StandBeside (setup_in client.old) number (life client.old) exchange.old s
-        → AreBuiltIf (has_load (events_by (setup_in client.old) s (step.Down number))) (systems client.old ⟦<dyn System as System>⟧)
-        (systems client.new ⟦<dyn System as System>⟧) }
+    requires { MayHear ⟦<dyn System as System>⟧ number client.old exchange.old }
+    ensures loads { Loads ⟦<dyn System as System>⟧ (step.Down number) result client.old exchange.old client.new exchange.new }
     ensures idle { pipe_in exchange.old.downs number ≡ [] → IsOk result }
-    ensures setup { setup_in client.new ≡ setup_in client.old }
-    ensures rules { exchange.new.server.rules ≡ exchange.old.server.rules }
 {
     let Some(down) = exchange.fall(number)? else {
         return Ok(Items::new(alloc));

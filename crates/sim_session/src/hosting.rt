@@ -1,13 +1,13 @@
 //! A session that is begun, goes through its steps and is told.
 
-ghost use Rattle.{sim_base.specs.Limits.IsSetup, sim_system.specs.Meanings.HaveKinds};
-ghost use Rattle.{sim_client.specs.StageWords.AreCleared, sim_lists.specs.StepLists.IsStepList, sim_session.specs.Standing.StandsFor};
-ghost use Rattle.std.specs.Prelude.{◌≡◌, ◌≤◌, ◌++◌, length, drop, IfOk, OnOk, vec_capacity, string_bytes, All};
+ghost use Rattle.sim_lists.specs.StepLists.{IsStepList};
+ghost use Rattle.std.specs.Prelude.{◌≡◌, ◌++◌, IfOk, OnOk, string_bytes};
 ghost use Rattle.sim_client.specs.ClientWords.{digest_of, IsSound, life, setup_in as client_setup_in};
 ghost use Rattle.sim_plain_session.specs.{Printed.events_after, Printed.start_events, Sessions.opened};
-ghost use Rattle.sim_session.specs.SessionWords.{clients_in, IsSession, MayFinish, rigs_of, room_in, seen_in, setup_in, spare_in, systems_in};
+ghost use Rattle.sim_session.specs.SessionWords.{rigs_of, setup_in};
 ghost use Rattle.sim_session.specs.{SessionText.lines_of, SessionText.session_of, SessionText.session_text as text_of_session, Starts.start_lines};
-ghost use Rattle.sim_session.specs.Rigs.{AllBuiltAtMost, AllStand, builds_of, loads_in};
+ghost use Rattle.sim_session.specs.{Going.ComeBackBuilt, Going.HasOpened, Going.MayBegin, Going.MayPass, Going.Passes};
+ghost use Rattle.sim_session.specs.Rigs.{AllStand, builds_of, loads_in};
 
 use crate::closing::push_ending;
 use crate::session::Session;
@@ -39,9 +39,7 @@ fn push_start(client: &Client<'_>, number: u8, text: &mut String) -> Result<(), 
 
 /// Appends the lines of the clients that are on at the beginning.
 pub fn push_starts(session: &Session<'_>, clients: u8, text: &mut String) -> Result<(), OutOfMemory>
-    requires session { IsSession session.now ⟦<dyn System as System>⟧ }
-    requires clients { clients ≤ (setup_in session.now).players }
-    requires opened { StandsFor (setup_in session.now) (seen_in session.now) (opened (setup_in session.now) clients) }
+    requires { HasOpened ⟦<dyn System as System>⟧ clients clients session.now }
     ensures { OnOk result (string_bytes text.new ≡ string_bytes text.old ++ lines_of (start_events (setup_in session.now) clients)) }
 {
     for before in 0..clients {
@@ -57,20 +55,11 @@ fn push_steps(
     list: &StepList,
     text: &mut String,
 ) -> Result<(), OutOfMemory>
-    requires session { IsSession session.old ⟦<dyn System as System>⟧ }
-    requires list { IsStepList (setup_in session.old).players list.now }
-    requires opened { StandsFor (setup_in session.old) (seen_in session.old) (opened (setup_in session.old) list.now.clients) }
-    ensures stands { OnOk result (StandsFor (setup_in session.old) (seen_in session.new) (session_of (setup_in session.old) list.now)) }
+    requires { MayPass ⟦<dyn System as System>⟧ list.now.clients list.now session.old }
     ensures text { OnOk result (string_bytes text.new ≡ string_bytes text.old ++
         lines_of (events_after (setup_in session.old) (opened (setup_in session.old) list.now.clients) list.now.steps)) }
-    ensures built { AllBuiltAtMost (loads_in (events_after (setup_in session.old) (opened (setup_in session.old) list.now.clients) list.now.steps))
-        (setup_in session.old).players (systems_in session.old ⟦<dyn System as System>⟧) (systems_in session.new ⟦<dyn System as System>⟧) }
-    ensures session { OnOk result (IsSession session.new ⟦<dyn System as System>⟧) }
-    ensures finish { MayFinish session.new ⟦<dyn System as System>⟧ }
-    ensures setup { setup_in session.new ≡ setup_in session.old }
-    ensures spare { spare_in session.new ≡ spare_in session.old }
-    ensures room { room_in session.new ≡ room_in session.old }
-    ensures count { length (clients_in session.new) ≡ length (clients_in session.old) }
+    ensures passes { Passes ⟦<dyn System as System>⟧ list.now (loads_in (events_after (setup_in session.old) (opened (setup_in session.old) list.now.clients)
+        list.now.steps)) result session.old session.new }
 {
     for step in list.steps.as_slice() {
         let events = session.step(step)?;
@@ -85,19 +74,9 @@ fn push_session(
     list: &StepList,
     text: &mut String,
 ) -> Result<(), OutOfMemory>
-    requires session { IsSession session.old ⟦<dyn System as System>⟧ }
-    requires list { IsStepList (setup_in session.old).players list.now }
-    requires opened { StandsFor (setup_in session.old) (seen_in session.old) (opened (setup_in session.old) 0) }
-    ensures stands { OnOk result (StandsFor (setup_in session.old) (seen_in session.new) (session_of (setup_in session.old) list.now)) }
+    requires { MayPass ⟦<dyn System as System>⟧ 0 list.now session.old }
     ensures text { OnOk result (string_bytes text.new ≡ string_bytes text.old ++ text_of_session (setup_in session.old) list.now) }
-    ensures built { AllBuiltAtMost (builds_of (setup_in session.old) list.now) (setup_in session.old).players (systems_in session.old ⟦<dyn System as System>⟧)
-        (systems_in session.new ⟦<dyn System as System>⟧) }
-    ensures session { OnOk result (IsSession session.new ⟦<dyn System as System>⟧) }
-    ensures finish { MayFinish session.new ⟦<dyn System as System>⟧ }
-    ensures setup { setup_in session.new ≡ setup_in session.old }
-    ensures spare { spare_in session.new ≡ spare_in session.old }
-    ensures room { room_in session.new ≡ room_in session.old }
-    ensures count { length (clients_in session.new) ≡ length (clients_in session.old) }
+    ensures passes { Passes ⟦<dyn System as System>⟧ list.now (builds_of (setup_in session.old) list.now) result session.old session.new }
 {
     session.start(list.clients)?;
     push_starts(session, list.clients, text)?;
@@ -116,19 +95,11 @@ pub fn session_text(
     list: &StepList,
     rigs: Vec<Rig>,
 ) -> (Result<String, OutOfMemory>, Vec<Rig>)
-    requires limits { IsSetup setup.now }
+    requires begins { MayBegin ⟦<dyn System as System>⟧ setup.now rigs.items }
     requires list { IsStepList setup.now.players list.now }
-    requires eight { length rigs.items ≡ 8 }
-    requires kinds { All HaveKinds (rigs_of rigs.items ⟦<dyn System as System>⟧) }
-    requires cleared { All AreCleared (rigs_of rigs.items ⟦<dyn System as System>⟧) }
     ensures text { IfOk result.0 (λ text. string_bytes text ≡ text_of_session setup.now list.now) }
     ensures stand { OnOk result.0 (AllStand setup.now (session_of setup.now list.now) (rigs_of result.1.items ⟦<dyn System as System>⟧)) }
-    ensures built { AllBuiltAtMost (builds_of setup.now list.now) setup.now.players (rigs_of rigs.items ⟦<dyn System as System>⟧)
-        (rigs_of result.1.items ⟦<dyn System as System>⟧) }
-    ensures kinds { All HaveKinds (rigs_of result.1.items ⟦<dyn System as System>⟧) }
-    ensures spare { drop setup.now.players result.1.items ≡ drop setup.now.players rigs.items }
-    ensures eight { length result.1.items ≡ 8 }
-    ensures room { vec_capacity result.1 ≡ vec_capacity rigs }
+    ensures rigs { ComeBackBuilt ⟦<dyn System as System>⟧ setup.now list.now rigs result.1 }
 {
     match Session::new(alloc, setup, orders, rigs) {
         Ok(mut session) => {

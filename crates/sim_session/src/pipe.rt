@@ -1,6 +1,7 @@
 //! The line of a pipe: how long the frames are that lie in it.
 
-ghost use Rattle.std.specs.Prelude.{◌≡◌, ◌++◌, OnOk, OnErr, string_bytes};
+ghost use Rattle.sim_report.specs.Appending.{Appends};
+ghost use Rattle.std.specs.Prelude.{◌≡◌, ◌++◌, OnOk, string_bytes};
 ghost use Rattle.sim_session.specs.Pipes.{lengths_text, pipe_line};
 
 use sim_base::OutOfMemory;
@@ -14,8 +15,7 @@ pub fn push_pipe(
     frames: &[Bytes],
     out: &mut String,
 ) -> Result<(), OutOfMemory>
-    ensures ok { OnOk result (string_bytes out.new ≡ string_bytes out.old ++ pipe_line client word.now frames.now) }
-    ensures err { OnErr result (string_bytes out.new ≡ string_bytes out.old) }
+    ensures { Appends result out.old out.new (pipe_line client word.now frames.now) }
 {
     let mut line = String::new(*out.allocator());
     write_pipe(client, word, frames, &mut line)?;

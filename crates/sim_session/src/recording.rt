@@ -1,10 +1,11 @@
 //! A session that is gone through without a word of it, for the commands that were kept of its released turns.
 
-ghost use Rattle.{sim_base.specs.Limits.IsSetup, sim_server.specs.Standing.server_of, sim_system.specs.Meanings.HaveKinds, std.specs.List.range_with_len};
-ghost use Rattle.{sim_client.specs.StageWords.AreCleared, sim_lists.specs.StepLists.IsStepList, sim_session.specs.Standing.StandsFor};
+ghost use Rattle.{sim_server.specs.Standing.server_of, sim_system.specs.Meanings.HaveKinds, std.specs.List.range_with_len};
+ghost use Rattle.{sim_client.specs.StageWords.AreCleared, sim_lists.specs.StepLists.IsStepList};
 ghost use Rattle.{sim_plain_session.specs.Printed.events_after, sim_plain_session.specs.Sessions.opened, sim_session.specs.SessionText.session_of};
-ghost use Rattle.std.specs.Prelude.{◌≡◌, ◌≤◌, map, length, take, drop, IfOk, OnOk, vec_capacity, All};
-ghost use Rattle.sim_session.specs.SessionWords.{clients_in, IsSession, MayFinish, rigs_of, room_in, seen_in, setup_in, spare_in, systems_in};
+ghost use Rattle.std.specs.Prelude.{◌≡◌, ◌≤◌, map, length, take, drop, IfOk, vec_capacity, All};
+ghost use Rattle.sim_session.specs.SessionWords.{rigs_of, setup_in, systems_in};
+ghost use Rattle.sim_session.specs.Going.{ComeBackBuilt, Keeps, MayBegin, MayPass, Passes};
 ghost use Rattle.sim_session.specs.{Recording.released_turns as turns_released, Rigs.AllBuiltAtMost, Rigs.builds_of, Rigs.loads_in};
 
 use crate::session::Session;
@@ -18,18 +19,9 @@ use std::alloc::Global;
 
 // Makes each step of the list.
 fn make_steps(session: &mut Session<'_>, list: &StepList) -> Result<(), OutOfMemory>
-    requires session { IsSession session.old ⟦<dyn System as System>⟧ }
-    requires list { IsStepList (setup_in session.old).players list.now }
-    requires opened { StandsFor (setup_in session.old) (seen_in session.old) (opened (setup_in session.old) list.now.clients) }
-    ensures stands { OnOk result (StandsFor (setup_in session.old) (seen_in session.new) (session_of (setup_in session.old) list.now)) }
-    ensures built { AllBuiltAtMost (loads_in (events_after (setup_in session.old) (opened (setup_in session.old) list.now.clients) list.now.steps))
-        (setup_in session.old).players (systems_in session.old ⟦<dyn System as System>⟧) (systems_in session.new ⟦<dyn System as System>⟧) }
-    ensures session { OnOk result (IsSession session.new ⟦<dyn System as System>⟧) }
-    ensures finish { MayFinish session.new ⟦<dyn System as System>⟧ }
-    ensures setup { setup_in session.new ≡ setup_in session.old }
-    ensures spare { spare_in session.new ≡ spare_in session.old }
-    ensures room { room_in session.new ≡ room_in session.old }
-    ensures count { length (clients_in session.new) ≡ length (clients_in session.old) }
+    requires { MayPass ⟦<dyn System as System>⟧ list.now.clients list.now session.old }
+    ensures { Passes ⟦<dyn System as System>⟧ list.now (loads_in (events_after (setup_in session.old) (opened (setup_in session.old) list.now.clients)
+        list.now.steps)) result session.old session.new }
 {
     for step in list.steps.as_slice() {
         session.step(step)?;
@@ -39,17 +31,11 @@ fn make_steps(session: &mut Session<'_>, list: &StepList) -> Result<(), OutOfMem
 
 // Begins the session, makes its steps, and gives the commands of its released turns.
 fn record(alloc: Global, session: &mut Session<'_>, list: &StepList) -> Result<Turns, OutOfMemory>
-    requires session { IsSession session.old ⟦<dyn System as System>⟧ }
-    requires list { IsStepList (setup_in session.old).players list.now }
-    requires opened { StandsFor (setup_in session.old) (seen_in session.old) (opened (setup_in session.old) 0) }
+    requires { MayPass ⟦<dyn System as System>⟧ 0 list.now session.old }
     ensures turns { IfOk result (λ turns. turns ≡ turns_released (session_of (setup_in session.old) list.now)) }
     ensures built { AllBuiltAtMost (builds_of (setup_in session.old) list.now) (setup_in session.old).players (systems_in session.old ⟦<dyn System as System>⟧)
         (systems_in session.new ⟦<dyn System as System>⟧) }
-    ensures finish { MayFinish session.new ⟦<dyn System as System>⟧ }
-    ensures setup { setup_in session.new ≡ setup_in session.old }
-    ensures spare { spare_in session.new ≡ spare_in session.old }
-    ensures room { room_in session.new ≡ room_in session.old }
-    ensures count { length (clients_in session.new) ≡ length (clients_in session.old) }
+    ensures keeps { Keeps ⟦<dyn System as System>⟧ session.old session.new }
 {
     session.start(list.clients)?;
     make_steps(session, list)?;
@@ -102,19 +88,11 @@ pub fn released_turns(
     list: &StepList,
     rigs: Vec<Rig>,
 ) -> (Result<Turns, OutOfMemory>, Vec<Rig>)
-    requires limits { IsSetup setup.now }
+    requires begins { MayBegin ⟦<dyn System as System>⟧ setup.now rigs.items }
     requires list { IsStepList setup.now.players list.now }
-    requires eight { length rigs.items ≡ 8 }
-    requires kinds { All HaveKinds (rigs_of rigs.items ⟦<dyn System as System>⟧) }
-    requires cleared { All AreCleared (rigs_of rigs.items ⟦<dyn System as System>⟧) }
     ensures turns { IfOk result.0 (λ turns. turns ≡ turns_released (session_of setup.now list.now)) }
-    ensures built { AllBuiltAtMost (builds_of setup.now list.now) setup.now.players (rigs_of rigs.items ⟦<dyn System as System>⟧)
-        (rigs_of result.1.items ⟦<dyn System as System>⟧) }
     ensures cleared { All AreCleared (rigs_of result.1.items ⟦<dyn System as System>⟧) }
-    ensures kinds { All HaveKinds (rigs_of result.1.items ⟦<dyn System as System>⟧) }
-    ensures spare { drop setup.now.players result.1.items ≡ drop setup.now.players rigs.items }
-    ensures eight { length result.1.items ≡ 8 }
-    ensures room { vec_capacity result.1 ≡ vec_capacity rigs }
+    ensures rigs { ComeBackBuilt ⟦<dyn System as System>⟧ setup.now list.now rigs result.1 }
 {
     match Session::new(alloc, setup, orders, rigs) {
         Ok(mut session) => {

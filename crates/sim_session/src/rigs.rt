@@ -1,8 +1,9 @@
 //! Clients made of rigs, and rigs taken back from clients. The rigs that have no client stay in the list in which all came,
 //! and so does its room.
 
-ghost use Rattle.{sim_base.specs.Limits.IsSetup, sim_client.specs.Lives.Off, sim_client.specs.StageWords.AreCleared, sim_system.specs.Meanings.HaveKinds};
+ghost use Rattle.{sim_base.specs.Limits.IsSetup, sim_client.specs.Lives.Off, sim_system.specs.Meanings.HaveKinds};
 ghost use Rattle.std.specs.Prelude.{◌≡◌, ◌+◌, ◌<◌, ◌≤◌, [], ◌∷◌, ◌++◌, length, drop, replicate, vec_capacity, All};
+ghost use Rattle.sim_session.specs.{Going.AreFresh, Going.Seats};
 ghost use Rattle.sim_session.specs.SessionWords.{AreMembers, lives_of, rigs_of, systems_of};
 
 use sim_base::Setup;
@@ -24,16 +25,12 @@ fn seat_one<'a>(
     requires number { (0 < number) × (number ≤ setup.now.players) }
     requires room { length clients.old.items < vec_capacity clients.old }
     requires left { 0 < length rigs.old.items }
-    requires kinds { All HaveKinds (rigs_of rigs.old.items ⟦<dyn System as System>⟧) }
-    requires cleared { All AreCleared (rigs_of rigs.old.items ⟦<dyn System as System>⟧) }
+    requires fresh { AreFresh ⟦<dyn System as System>⟧ rigs.old.items }
     requires members { AreMembers setup.now clients.old.items ⟦<dyn System as System>⟧ }
-    ensures rigs { rigs.new.items ≡ drop 1 rigs.old.items }
-    ensures systems { systems_of clients.new.items ⟦<dyn System as System>⟧ ++ rigs_of rigs.new.items ⟦<dyn System as System>⟧ ≡ systems_of clients.old.items
-        ⟦<dyn System as System>⟧ ++ rigs_of rigs.old.items ⟦<dyn System as System>⟧ }
-    ensures members { AreMembers setup.now clients.new.items ⟦<dyn System as System>⟧ }
-    ensures off { lives_of clients.new.items ≡ lives_of clients.old.items ++ Off ∷ [] }
+    ensures seats { Seats ⟦<dyn System as System>⟧ setup.now (drop 1 rigs.old.items)
+        (systems_of clients.old.items ⟦<dyn System as System>⟧ ++ rigs_of rigs.old.items ⟦<dyn System as System>⟧) (lives_of clients.old.items ++ Off ∷ [])
+        clients.new.items rigs.old rigs.new }
     ensures room { vec_capacity clients.old ≤ vec_capacity clients.new }
-    ensures kept { vec_capacity rigs.new ≡ vec_capacity rigs.old }
 {
     let client = Client::new(alloc, setup, orders, number, rigs.remove(0));
     match clients.push(client) {
@@ -54,14 +51,9 @@ pub fn seat<'a>(
     requires none { clients.old.items ≡ [] }
     requires room { setup.now.players ≤ vec_capacity clients.old }
     requires enough { setup.now.players ≤ length rigs.old.items }
-    requires kinds { All HaveKinds (rigs_of rigs.old.items ⟦<dyn System as System>⟧) }
-    requires cleared { All AreCleared (rigs_of rigs.old.items ⟦<dyn System as System>⟧) }
-    ensures rigs { rigs.new.items ≡ drop setup.now.players rigs.old.items }
-    ensures systems { systems_of clients.new.items ⟦<dyn System as System>⟧ ++ rigs_of rigs.new.items ⟦<dyn System as System>⟧ ≡ rigs_of rigs.old.items
-        ⟦<dyn System as System>⟧ }
-    ensures members { AreMembers setup.now clients.new.items ⟦<dyn System as System>⟧ }
-    ensures off { lives_of clients.new.items ≡ replicate setup.now.players Off }
-    ensures kept { vec_capacity rigs.new ≡ vec_capacity rigs.old }
+    requires fresh { AreFresh ⟦<dyn System as System>⟧ rigs.old.items }
+    ensures { Seats ⟦<dyn System as System>⟧ setup.now (drop setup.now.players rigs.old.items) (rigs_of rigs.old.items ⟦<dyn System as System>⟧)
+        (replicate setup.now.players Off) clients.new.items rigs.old rigs.new }
 {
     for i in 0..setup.players {
         seat_one(alloc, setup, orders, clients, rigs, i + 1);

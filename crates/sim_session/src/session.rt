@@ -1,14 +1,13 @@
 //! A session. After want of memory it may only be finished.
 
-ghost use Rattle.{sim_base.specs.Limits.IsSetup, sim_base.specs.declared.step.Step.Step as AnyStep, sim_client.specs.StageWords.AreCleared};
 ghost use Rattle.{sim_pipes.specs.Pipes.pipe_in, sim_system.specs.Meanings.HaveKinds};
-ghost use Rattle.std.specs.Prelude.{◌≡◌, ℕ, ◌-◌, ◌<◌, ◌≤◌, List, ◌++◌, length, drop, IfOk, IfErr, if◌then◌else◌, OnOk, IsOk, vec_capacity, All};
+ghost use Rattle.std.specs.Prelude.{◌≡◌, ℕ, ◌<◌, ◌≤◌, ◌++◌, length, drop, IfOk, IfErr, if◌then◌else◌, OnOk, vec_capacity, All};
 ghost use Rattle.sim_client.specs.{ClientWords.IsSound, ClientWords.life, ClientWords.setup_in as client_setup_in, Lives.Off, Lives.starts};
-ghost use Rattle.sim_plain_session.specs.{Printed.events as events_in, Sessions.client_of as client_in, Sessions.opened, Sessions.session as session_over};
-ghost use Rattle.sim_session.specs.Building.{AreBuilt, AreBuiltIf, ChangeAt, has_load, StartsOnly};
+ghost use Rattle.sim_plain_session.specs.Sessions.{client_of as client_in, opened};
+ghost use Rattle.sim_session.specs.{Building.StartsOnly, Going.GoesOn, Going.HasOpened, Going.IsOn, Going.MayBegin, Going.Takes};
 ghost use Rattle.sim_session.specs.SessionWords.{AreMembers, AreOfClients, clients_in, IsSession, lives_of, MayFinish, rigs_of, room_in, seen_in, setup_in};
 ghost use Rattle.sim_session.specs.SessionWords.{spare_in, systems_in, systems_of};
-ghost use Rattle.sim_session.specs.Standing.{IsIdle, IsNumber, IsSmallStep, life_of, StandsFor, StandsForSome, Steps};
+ghost use Rattle.sim_session.specs.Standing.{IsNumber, IsSmallStep, life_of, StandsFor, Steps};
 
 use crate::acting::{act, client_of};
 use crate::rigs::{seat, unseat};
@@ -61,10 +60,7 @@ impl<'a> Session<'a> {
         orders: &'a OrderTable,
         rigs: Vec<Rig>,
     ) -> Result<Session<'a>, Vec<Rig>>
-        requires limits { IsSetup setup.now }
-        requires eight { length rigs.items ≡ 8 }
-        requires kinds { All HaveKinds (rigs_of rigs.items ⟦<dyn System as System>⟧) }
-        requires cleared { All AreCleared (rigs_of rigs.items ⟦<dyn System as System>⟧) }
+        requires { MayBegin ⟦<dyn System as System>⟧ setup.now rigs.items }
         ensures session { IfOk result (λ session. IsSession session ⟦<dyn System as System>⟧) }
         ensures setup { IfOk result (λ session. setup_in session ≡ setup.now) }
         ensures opened { IfOk result (λ session. StandsFor setup.now (seen_in session) (opened setup.now 0)) }
@@ -96,16 +92,10 @@ impl<'a> Session<'a> {
 
     /// Clients 1 to this number begin in the match. It is called once, before every step.
     pub fn start(&mut self, clients: u8) -> Result<(), OutOfMemory>
-        requires session { IsSession self.old ⟦<dyn System as System>⟧ }
-        requires clients { clients ≤ (setup_in self.old).players }
-        requires opened { StandsFor (setup_in self.old) (seen_in self.old) (opened (setup_in self.old) 0) }
+        requires { HasOpened ⟦<dyn System as System>⟧ 0 clients self.old }
         ensures stands { OnOk result (StandsFor (setup_in self.old) (seen_in self.new) (opened (setup_in self.old) clients)) }
-        ensures session { OnOk result (IsSession self.new ⟦<dyn System as System>⟧) }
-        ensures finish { MayFinish self.new ⟦<dyn System as System>⟧ }
         ensures built { StartsOnly clients (systems_in self.old ⟦<dyn System as System>⟧) (systems_in self.new ⟦<dyn System as System>⟧) }
-        ensures setup { setup_in self.new ≡ setup_in self.old }
-        ensures spare { spare_in self.new ≡ spare_in self.old }
-        ensures room { room_in self.new ≡ room_in self.old }
+        ensures goes { GoesOn ⟦<dyn System as System>⟧ result self.old self.new }
     {
         let setup = self.setup;
         self.exchange = Exchange::new(
@@ -121,27 +111,12 @@ impl<'a> Session<'a> {
     /// Makes one step, and answers what is printed of it. Only a state that is loaded builds the systems of its client, also
     /// where memory was refused; and a step that is not enabled takes none.
     pub fn step(&mut self, step: &Step) -> Result<Events, OutOfMemory>
-        requires session { IsSession self.old ⟦<dyn System as System>⟧ }
+        requires on { IsOn ⟦<dyn System as System>⟧ self.old }
         requires client { IsNumber (setup_in self.old) (client_in step.now) }
         requires few { IsSmallStep step.now }
-        requires some { StandsForSome (setup_in self.old) (seen_in self.old) }
         ensures steps { IfOk result (λ events. Steps (setup_in self.old) (seen_in self.old) step.now (seen_in self.new) events) }
-        ensures session { OnOk result (IsSession self.new ⟦<dyn System as System>⟧) }
-        ensures finish { MayFinish self.new ⟦<dyn System as System>⟧ }
-        ensures built { IfOk result (λ events. ChangeAt (AreBuiltIf (has_load events)) (client_in step.now - 1) (systems_in self.old ⟦<dyn System as System>⟧)
-            (systems_in self.new ⟦<dyn System as System>⟧)) }
-        ensures most { ChangeAt AreBuilt (client_in step.now - 1) (systems_in self.old ⟦<dyn System as System>⟧)
-            (systems_in self.new ⟦<dyn System as System>⟧) }
-        ensures loads { (active : ℕ) (steps : List AnyStep) → active ≤ (setup_in self.old).players → StandsFor (setup_in self.old) (seen_in self.old)
-            (session_over (setup_in self.old) active steps)
-            → ChangeAt (AreBuiltIf (has_load (events_in (setup_in self.old) (session_over (setup_in self.old) active steps) step.now))) (client_in step.now - 1)
-            (systems_in self.old ⟦<dyn System as System>⟧) (systems_in self.new ⟦<dyn System as System>⟧) }
-        ensures idle { (active : ℕ) (steps : List AnyStep) → active ≤ (setup_in self.old).players → StandsFor (setup_in self.old) (seen_in self.old)
-            (session_over (setup_in self.old) active steps)
-            → IsIdle (setup_in self.old) (session_over (setup_in self.old) active steps) step.now → IsOk result }
-        ensures setup { setup_in self.new ≡ setup_in self.old }
-        ensures spare { spare_in self.new ≡ spare_in self.old }
-        ensures room { room_in self.new ≡ room_in self.old }
+        ensures takes { Takes ⟦<dyn System as System>⟧ step.now result self.old self.new }
+        ensures goes { GoesOn ⟦<dyn System as System>⟧ result self.old self.new }
     {
         let number = client_of(step);
         let client = &mut self.clients[number as usize - 1];

@@ -18,14 +18,22 @@ returns-clause-text g c = λ clients steps few counted stands.
     ∙ ap (answer_to c.args.session.now.setup.now clients steps) asked
 
 pub returns-clause-count : goal.returns-clause-count
-returns-clause-count g c = λ steps counted.
+returns-clause-count g c =
     let asked : c.in_ok-asked.asked ≡ line_of c.args.session.now.setup.now.players c.args.line.now =
     c.in_ok-asked.ensures.value ∙ ap (λ (s : Setup). line_of s.players c.args.line.now) c.setup.ensures in
-    c.in_ok-count.ensures.count steps counted ∙ ap (λ (l : Line). length (steps_with steps l)) asked
+    record {
+      count = λ steps counted. c.in_ok-count.ensures.count.count steps counted ∙ ap (λ (l : Line). length (steps_with steps l)) asked;
+      few = c.in_ok-count.ensures.count.few;
+    }
 
-pub returns-clause-stands : goal.returns-clause-stands
-returns-clause-stands g c = λ clients steps few stands.
+pub returns-clause-follows : goal.returns-clause-follows
+returns-clause-follows g c =
     let asked : c.in_ok-asked.asked ≡ line_of c.args.session.now.setup.now.players c.args.line.now =
     c.in_ok-asked.ensures.value ∙ ap (λ (s : Setup). line_of s.players c.args.line.now) c.setup.ensures in
-    subst (λ (l : Line). StandsFor c.args.session.now.setup.now (seen_in c.push_answer.new.session)
-    (session c.args.session.now.setup.now clients (steps_with steps l))) asked (c.in_ok-count.ensures.stands clients steps few stands)
+    let followed = c.in_ok-count.ensures.follows in
+    record {
+      stands = λ clients steps few stands.
+          subst (λ (l : Line). StandsFor c.args.session.now.setup.now (seen_in c.push_answer.new.session)
+          (session c.args.session.now.setup.now clients (steps_with steps l))) asked (followed.stands clients steps few stands);
+      goes = record { session = followed.goes.session; keeps = followed.goes.keeps };
+    }

@@ -1,5 +1,6 @@
 -- The lines of just the events of the step.
 use Rattle.{sim_session.proofs.Beside.then_on, sim_session.specs.SessionText.lines_of, std.specs.Prelude.string_bytes}
+use Rattle.{sim_client.proofs.Standing.anyway}
 use Rattle.std.proofs.Common.{List, ◌++◌, ap, ◌∙◌}
 use Rattle.sim_base.specs.declared.step.Event.{Event}
 use Rattle.sim_live.proofs.answering.push_step.Goals as goal
@@ -10,3 +11,10 @@ returns-clause-text g c =
     (λ told clients steps few stands.
     told ∙ ap (λ (events : List Event). string_bytes c.args.out.now ++ lines_of events) (c.in_ok-events.ensures.steps.printed clients steps few stands))
     c.push_events.ensures
+
+pub returns-clause-follows : goal.returns-clause-follows
+returns-clause-follows g c =
+    record {
+      stands = anyway c.push_events.result (λ clients steps few stands. c.in_ok-events.ensures.steps.stands clients steps few stands);
+      goes = record { session = anyway c.push_events.result c.in_ok-events.ensures.goes.session; keeps = c.in_ok-events.ensures.goes.keeps };
+    }

@@ -1,10 +1,11 @@
 -- Each line is heard, and then its answer is told.
-use Rattle.std.proofs.Common.{◌≡◌, ℕ, List, [], ◌∷◌, true, false, Ok, Err, ap, arith, refl, rules, subst, sym, ◌∙◌}
+use Rattle.std.proofs.Common.{◌≡◌, ℕ, List, [], ◌∷◌, true, false, Ok, Err, ap, arith, rules, subst, sym, ◌∙◌}
 use Rattle.sim_live.proofs.Answered.{all_answered, answered_line, answered_nothing, stands_some, unheard_line, unmade_line, untold_line}
 use Rattle.sim_live.specs.Live.{answer}
 use Rattle.sim_session.specs.SessionWords.{seen_in}
 use Rattle.sim_talk.specs.Talks.{Extends, heard, Hears}
 use Rattle.sim_talk.specs.declared.fault.TalkFault.TheVariants as ends
+use Rattle.sim_session.proofs.Keeping.{keeps_on, kept}
 use Rattle.sim_live.proofs.living.answer_all.Goals as goal
 
 pub loop-before-init : goal.loop-before-init
@@ -12,17 +13,17 @@ loop-before-init g c = record {
   answered = answered_nothing c.args.session.now.setup.now c.args.clients (seen_in c.args.session.now) _ c.requires.opened;
   few = omega arith;
   session = c.requires.session;
-  setup = refl;
-  spare = refl;
-  count = refl;
-  room = refl;
+  keeps = kept (λ i v. (goal.System-dyn g (i, v)).meaning v) c.args.session.now c.requires.session.finish;
 }
 
-pub answer-requires-clause-some : goal.answer-requires-clause-some
-answer-requires-clause-some g c =
-    stands_some c.args.session.now.setup.now c.loop-before.session.setup.now c.args.clients (seen_in c.loop-before.session) _ _ _ _
-    c.loop-before.invariant.answered
-    c.loop-before.invariant.setup c.requires.clients
+pub answer-requires-clause-on : goal.answer-requires-clause-on
+answer-requires-clause-on g c =
+    record {
+      session = c.loop-before.invariant.session;
+      some = stands_some c.args.session.now.setup.now c.loop-before.session.setup.now c.args.clients (seen_in c.loop-before.session) _ _ _ _
+          c.loop-before.invariant.answered
+          c.loop-before.invariant.keeps.setup c.requires.clients;
+    }
 
 pub returns-in_err-hear-clause-answers : goal.returns-in_err-hear-clause-answers
 returns-in_err-hear-clause-answers g c =
@@ -55,7 +56,7 @@ returns-in_err-tell-clause-answers g c =
     c.in_ok-hear.ensures in
     untold_line c.args.session.now.setup.now c.loop-before.session.setup.now c.args.clients (seen_in c.loop-before.session) (seen_in c.answer.new.session)
     c.loop-before.made c.loop-before._before _ c.hear.new.line.items c.as_bytes.result.now c.in_err-tell.field-0.0 _ _ _ _ c.loop-before.invariant.answered
-    c.loop-before.invariant.setup c.requires.clients is
+    c.loop-before.invariant.keeps.setup c.requires.clients is
     (λ clients steps few made stands. c.as_bytes.ensures.value ∙ c.in_ok-text.ensures.text clients steps few made stands
     ∙ ap (λ (line : List ℕ). answer c.loop-before.session.setup.now clients steps line) c.deref.ensures.value)
     one c.in_err-tell.ensures
@@ -69,16 +70,30 @@ loop-before-preserved g c =
     record {
       answered = answered_line c.args.session.now.setup.now c.loop-before.session.setup.now c.args.clients (seen_in c.loop-before.session)
           (seen_in c.answer.new.session) c.loop-before.made c.in_ok-text.count c.loop-before._before c.deref.result.now c.as_bytes.result.now _ _ _ _
-          was.answered was.setup c.requires.clients
+          was.answered was.keeps.setup c.requires.clients
           (subst (λ (line : List ℕ). Extends (g.T.Talk.history c.loop-before.talk) (g.T.Talk.history c.hear.new.self) (heard line ∷ []))
           (sym c.deref.ensures.value) one)
           c.in_ok-tell.ensures
           (λ clients steps few made stands. c.as_bytes.ensures.value ∙ c.in_ok-text.ensures.text clients steps few made stands)
-          c.in_ok-text.ensures.count c.in_ok-text.ensures.stands;
-      few = omega (arith, c.in_ok-text.ensures.few, was.few);
-      session = c.in_ok-text.ensures.session;
-      setup = c.in_ok-text.ensures.setup ∙ was.setup;
-      spare = c.in_ok-text.ensures.spare ∙ was.spare;
-      count = c.in_ok-text.ensures.clients ∙ was.count;
-      room = c.in_ok-text.ensures.room ∙ was.room;
+          c.in_ok-text.ensures.count.count c.in_ok-text.ensures.follows.stands;
+      few = omega (arith, c.in_ok-text.ensures.count.few, was.few);
+      session = c.in_ok-text.ensures.follows.goes.session;
+      keeps = keeps_on (λ i v. (goal.System-dyn g (i, v)).meaning v) c.args.session.now c.loop-before.session c.answer.new.session was.keeps
+          c.in_ok-text.ensures.follows.goes.keeps;
+    }
+
+pub returns-in_err-text-clause-goes : goal.returns-in_err-text-clause-goes
+returns-in_err-text-clause-goes g c =
+    record {
+      session = search rules;
+      keeps = keeps_on (λ i v. (goal.System-dyn g (i, v)).meaning v) c.args.session.now c.loop-before.session c.answer.new.session c.loop-before.invariant.keeps
+          c.answer.ensures.follows.goes.keeps;
+    }
+
+pub returns-in_err-tell-clause-goes : goal.returns-in_err-tell-clause-goes
+returns-in_err-tell-clause-goes g c =
+    record {
+      session = search rules;
+      keeps = keeps_on (λ i v. (goal.System-dyn g (i, v)).meaning v) c.args.session.now c.loop-before.session c.answer.new.session c.loop-before.invariant.keeps
+          c.in_ok-text.ensures.follows.goes.keeps;
     }

@@ -1,5 +1,5 @@
 -- Some lines were answered, and the session stands for that over their steps.
-use Rattle.{sim_live.proofs.Answered.HasAnswered, std.proofs.Common.◌≡◌, std.proofs.Common.◌≤◌, std.proofs.Common.length, std.specs.Prelude.vec_capacity}
+use Rattle.{sim_live.proofs.Answered.HasAnswered, sim_session.specs.Going.KeepsBy, std.proofs.Common.◌≤◌}
 use Rattle.sim_session.specs.SessionWords.{IsSessionBy, seen_in}
 use Rattle.sim_live.proofs.living.answer_all.Given as goal
 
@@ -9,8 +9,5 @@ invariant-loop-before g l =
       answered : HasAnswered l.fn.session.setup.now l.clients (seen_in l.session) l.made l._before (g.T.Talk.history l.fn.talk) (g.T.Talk.history l.talk);
       few : l.made ≤ l._before;
       session : IsSessionBy l.session (λ i v. (goal.System-dyn g (i, v)).meaning v);
-      setup : l.session.setup.now ≡ l.fn.session.setup.now;
-      spare : l.session.rigs.items ≡ l.fn.session.rigs.items;
-      count : length l.session.clients.items ≡ length l.fn.session.clients.items;
-      room : vec_capacity l.session.rigs ≡ vec_capacity l.fn.session.rigs;
+      keeps : KeepsBy (λ i v. (goal.System-dyn g (i, v)).meaning v) l.fn.session l.session;
     }

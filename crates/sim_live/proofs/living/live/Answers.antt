@@ -1,10 +1,8 @@
 -- The talk is that over the match, and all rigs come back in their order, each system in its place.
-use Rattle.sim_client.specs.StageWords.{systems_on}
 use Rattle.sim_live.proofs.Answered.{live_caused, live_settled, live_unmade}
 use Rattle.sim_talk.proofs.Talking.{nothing_kept}
-use Rattle.sim_session.proofs.Coming.{all_back, same_count}
-use Rattle.std.proofs.Common.{Err, refl, ◌∙◌}
-use Rattle.sim_system.specs.{Meanings.HaveKinds, RigWords.systems_by}
+use Rattle.{sim_session.proofs.Keeping.came_back, sim_session.specs.Going.ComeBackBy}
+use Rattle.std.proofs.Common.{Err, refl, subst, sym}
 use Rattle.sim_talk.specs.declared.fault.TalkFault.TheVariants as ends
 use Rattle.sim_live.proofs.living.live.Goals as goal
 
@@ -30,16 +28,14 @@ returns-in-Ok-clause-causes g c = live_caused c.args.setup.now c.args.clients c.
 pub returns-in-Err-clause-causes : goal.returns-in-Err-clause-causes
 returns-in-Err-clause-causes g c = live_caused c.args.setup.now c.args.clients c.settled.result _ _ (returns-in-Err-clause-lives g c)
 
-pub returns-in-Ok-clause-kinds : goal.returns-in-Ok-clause-kinds
-returns-in-Ok-clause-kinds g c =
-    all_back HaveKinds (λ r. systems_by r (λ i v. (g.dyn-2.0.entry i).1.meaning v)) (λ x. systems_on x.board (λ i v. (g.dyn-2.0.entry i).1.meaning v))
-    c.finish.result.items c.args.rigs.items c.talk_over-outcome.new.session.rigs.items c.talk_over-outcome.new.session.clients.items
-    c.args.setup.now.players
-    c.finish.ensures.systems (c.talk_over-outcome.ensures.spare ∙ c.in-Ok.ensures.spare) c.talk_over-outcome.ensures.finish.kinds c.requires.kinds
+pub returns-in-Ok-clause-rigs : goal.returns-in-Ok-clause-rigs
+returns-in-Ok-clause-rigs g c =
+    came_back (λ i v. (g.dyn-2.0.entry i).1.meaning v) c.args.setup.now c.in-Ok.session c.talk_over-outcome.new.session c.args.rigs c.finish.result
+    c.requires.begins
+    c.in-Ok.ensures.session c.in-Ok.ensures.setup c.in-Ok.ensures.systems c.in-Ok.ensures.spare c.in-Ok.ensures.room c.talk_over-outcome.ensures.keeps
+    c.finish.ensures.systems c.finish.ensures.spare c.finish.ensures.room
 
-pub returns-in-Ok-clause-eight : goal.returns-in-Ok-clause-eight
-returns-in-Ok-clause-eight g c =
-    same_count (λ r. systems_by r (λ i v. (g.dyn-2.0.entry i).1.meaning v)) (λ x. systems_on x.board (λ i v. (g.dyn-2.0.entry i).1.meaning v))
-    c.finish.result.items c.args.rigs.items c.in-Ok.session.rigs.items c.talk_over-outcome.new.session.rigs.items c.in-Ok.session.clients.items
-    c.talk_over-outcome.new.session.clients.items
-    c.finish.ensures.systems c.in-Ok.ensures.systems c.talk_over-outcome.ensures.count c.talk_over-outcome.ensures.spare ∙ c.requires.eight
+pub returns-in-Err-clause-rigs : goal.returns-in-Err-clause-rigs
+returns-in-Err-clause-rigs g c =
+    subst (λ back. ComeBackBy (λ i v. (g.dyn-2.0.entry i).1.meaning v) c.args.setup.now c.args.rigs back) (sym c.in-Err.ensures.back)
+    (record { kinds = c.requires.begins.fresh.kinds; spare = refl; eight = c.requires.begins.eight; room = refl })

@@ -7,11 +7,14 @@ use Rattle.std.proofs.Common.{◌≡◌, ℕ, List, [], ◌∷◌, ◌++◌, len
 use Rattle.sim_talk.specs.declared.fault.TalkFault.TheVariants as ends
 use Rattle.sim_live.proofs.living.tell_ending.Goals as goal
 
-pub push_ending-requires-clause-members : goal.push_ending-requires-clause-members
-push_ending-requires-clause-members g c =
+pub push_ending-requires-clause-clients : goal.push_ending-requires-clause-clients
+push_ending-requires-clause-clients g c =
     let members = c.requires.session.members in
-    subst (λ clients. All (IsMember c.setup.result.now (λ i. (g.dyn-2.0.entry i).1)) clients) (sym c.clients.ensures)
-    (λ k d lt. record { sound = (members k d lt).sound; same = (members k d lt).same ∙ sym c.setup.ensures })
+    record {
+      members = subst (λ clients. All (IsMember c.setup.result.now (λ i. (g.dyn-2.0.entry i).1)) clients) (sym c.clients.ensures)
+          (λ k d lt. record { sound = (members k d lt).sound; same = (members k d lt).same ∙ sym c.setup.ensures });
+      few = search rules;
+    }
 
 pub returns-in_err-tell : goal.returns-in_err-tell
 returns-in_err-tell g c = λ steps stands.

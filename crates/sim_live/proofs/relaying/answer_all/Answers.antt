@@ -65,9 +65,9 @@ loop-before-preserved g c =
           c.deref.result.now c.as_bytes.result.now _ _ _ _ c.loop-before.invariant.answered
           (subst (λ (line : List ℕ). Extends (g.T.Talk.history c.loop-before.talk) (g.T.Talk.history c.hear.new.self) (heard line ∷ []))
           (sym c.deref.ensures.value) one)
-          c.in_ok-tell.ensures c.in_ok-text.ensures.rules
+          c.in_ok-tell.ensures c.in_ok-text.ensures.stays.rules
           (λ active h counted stands. c.as_bytes.ensures.value ∙ c.in_ok-text.ensures.text active h counted stands)
-          c.in_ok-text.ensures.count c.in_ok-text.ensures.stands;
-      few = omega (arith, c.in_ok-text.ensures.few, c.loop-before.invariant.few);
-      small = c.in_ok-text.ensures.small;
+          c.in_ok-text.ensures.count.count c.in_ok-text.ensures.stands;
+      few = omega (arith, c.in_ok-text.ensures.count.few, c.loop-before.invariant.few);
+      small = c.in_ok-text.ensures.stays.small;
     }

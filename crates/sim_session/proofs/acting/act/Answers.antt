@@ -1,47 +1,109 @@
 -- The server hears what a client said; systems are built by loads alone; and a step that is not enabled comes to an end.
-use Rattle.sim_session.proofs.{Beside.kept_built, Beside.unbuilt, Beside.up_makes, Common.sym, Common.systems_on}
-use Rattle.sim_session.proofs.Common.{IfOk, IsOk, refl, AreBuiltIf, client_of, events_by, has_load, IsClient, life_at, Makes, Session, StandBeside, Step, subst}
+use Rattle.sim_session.proofs.{Acted.acted, Beside.unbuilt, Beside.up_makes, Common.sym}
+use Rattle.sim_session.proofs.Common.{anyway, IfOk, IsOk, refl, client_of, events_by, has_load}
+use Rattle.sim_session.proofs.Common.{IsClient, life_at, LoadsBy, Makes, MayHearBy, rules, Step, subst}
 use Rattle.sim_session.proofs.Idling.{bend_idle, cut_idle, down_idle, join_idle, order_idle, play_idle, up_idle, WhereIdle}
 use Rattle.sim_session.proofs.acting.act.Goals as goal
 
-pub returns-in-Up-clause-made : goal.returns-in-Up-clause-made
-returns-in-Up-clause-made g c =
-    let client = c.args.client.now in
-    let setup = client.setup.now in
-    let life = life_at client.stage client.board in
-    subst (λ x. IfOk c.rise.result (λ events. Makes setup x life c.args.exchange.now life c.rise.new.self events)) (sym c.in-Up.is)
-    (up_makes setup c.in-Up.number life c.args.exchange.now c.rise.new.self c.rise.result (c.rise.ensures.stands setup) (c.rise.ensures.events setup))
+-- ---- who may
 
--- ---- what builds systems
+pub order-requires-clause-may : goal.order-requires-clause-may
+order-requires-clause-may g c =
+    record {
+      sound = c.requires.may.acts.sound;
+      client = subst (λ (x : Step). IsClient c.args.exchange.now.server (client_of x)) c.in-Order.is c.requires.may.acts.client;
+    }
+
+pub play-requires : goal.play-requires
+play-requires g c =
+    record {
+      sound = c.requires.may.acts.sound;
+      client = subst (λ (x : Step). IsClient c.args.exchange.now.server (client_of x)) c.in-Play.is c.requires.may.acts.client;
+    }
+
+pub join-requires : goal.join-requires
+join-requires g c =
+    record {
+      sound = c.requires.may.acts.sound;
+      client = subst (λ (x : Step). IsClient c.args.exchange.now.server (client_of x)) c.in-Join.is c.requires.may.acts.client;
+    }
+
+pub cut-requires : goal.cut-requires
+cut-requires g c =
+    record {
+      sound = c.requires.may.acts.sound;
+      client = subst (λ (x : Step). IsClient c.args.exchange.now.server (client_of x)) c.in-Cut.is c.requires.may.acts.client;
+    }
+
+pub down-requires : goal.down-requires
+down-requires g c =
+    let client = c.args.client.now in
+    subst (λ (x : Step). MayHearBy (λ i v. (goal.System-dyn g (i, v)).meaning v) (client_of x) client c.args.exchange.now) c.in-Down.is c.requires.may
+
+-- ---- what is made, and what builds systems
 
 pub returns-in-Order-clause-loads : goal.returns-in-Order-clause-loads
-returns-in-Order-clause-loads g c = λ s at. kept_built (has_load (events_by c.args.client.now.setup.now s c.args.step.now)) _ _ c.order.ensures.kept
+returns-in-Order-clause-loads g c =
+    let old = c.args.client.now in
+    let new = c.order.new.client in
+    subst (λ (x : Step). LoadsBy (λ i v. (goal.System-dyn g (i, v)).meaning v) x c.order.result old c.args.exchange.now new c.order.new.exchange)
+    (sym c.in-Order.is)
+    (acted (λ i v. (goal.System-dyn g (i, v)).meaning v) _ _ c.order.result old c.args.exchange.now new _ c.order.ensures)
 
-pub returns-in-Up-clause-loads : goal.returns-in-Up-clause-loads
-returns-in-Up-clause-loads g c = λ s at. unbuilt (has_load (events_by c.args.client.now.setup.now s c.args.step.now)) _
+pub returns-in-Play-clause-loads : goal.returns-in-Play-clause-loads
+returns-in-Play-clause-loads g c =
+    let old = c.args.client.now in
+    let new = c.play.new.client in
+    subst (λ (x : Step). LoadsBy (λ i v. (goal.System-dyn g (i, v)).meaning v) x c.play.result old c.args.exchange.now new c.play.new.exchange)
+    (sym c.in-Play.is)
+    (acted (λ i v. (goal.System-dyn g (i, v)).meaning v) _ _ c.play.result old c.args.exchange.now new _ c.play.ensures)
+
+pub returns-in-Join-clause-loads : goal.returns-in-Join-clause-loads
+returns-in-Join-clause-loads g c =
+    let old = c.args.client.now in
+    let new = c.join.new.client in
+    subst (λ (x : Step). LoadsBy (λ i v. (goal.System-dyn g (i, v)).meaning v) x c.join.result old c.args.exchange.now new c.join.new.exchange)
+    (sym c.in-Join.is)
+    (acted (λ i v. (goal.System-dyn g (i, v)).meaning v) _ _ c.join.result old c.args.exchange.now new _ c.join.ensures)
+
+pub returns-in-Cut-clause-loads : goal.returns-in-Cut-clause-loads
+returns-in-Cut-clause-loads g c =
+    let old = c.args.client.now in
+    let new = c.cut.new.client in
+    subst (λ (x : Step). LoadsBy (λ i v. (goal.System-dyn g (i, v)).meaning v) x c.cut.result old c.args.exchange.now new c.cut.new.exchange) (sym c.in-Cut.is)
+    (acted (λ i v. (goal.System-dyn g (i, v)).meaning v) _ _ c.cut.result old c.args.exchange.now new _ c.cut.ensures.acts)
+
+pub returns-in-Bend-clause-loads : goal.returns-in-Bend-clause-loads
+returns-in-Bend-clause-loads g c =
+    let old = c.args.client.now in
+    let new = c.bend.new.client in
+    subst (λ (x : Step). LoadsBy (λ i v. (goal.System-dyn g (i, v)).meaning v) x c.bend.result old c.args.exchange.now new c.args.exchange.now)
+    (sym c.in-Bend.is)
+    (acted (λ i v. (goal.System-dyn g (i, v)).meaning v) _ _ c.bend.result old c.args.exchange.now new _ c.bend.ensures.acts)
 
 pub returns-in-Down-clause-loads : goal.returns-in-Down-clause-loads
 returns-in-Down-clause-loads g c =
-    let client = c.args.client.now in
+    let old = c.args.client.now in
     let new = c.down.new.client in
+    subst (λ (x : Step). LoadsBy (λ i v. (goal.System-dyn g (i, v)).meaning v) x c.down.result old c.args.exchange.now new c.down.new.exchange)
+    (sym c.in-Down.is)
+    c.down.ensures.loads
+
+pub returns-in-Up-clause-loads : goal.returns-in-Up-clause-loads
+returns-in-Up-clause-loads g c =
+    let client = c.args.client.now in
     let setup = client.setup.now in
     let life = life_at client.stage client.board in
-    subst (λ (x : Step). (s : Session) → StandBeside setup (client_of x) life c.args.exchange.now s
-    → AreBuiltIf (has_load (events_by setup s x)) (systems_on client.board (λ i v. (goal.System-dyn g (i, v)).meaning v))
-    (systems_on new.board (λ i v. (goal.System-dyn g (i, v)).meaning v)))
-    (sym c.in-Down.is) c.down.ensures.loads
-
-pub returns-in-Play-clause-loads : goal.returns-in-Play-clause-loads
-returns-in-Play-clause-loads g c = λ s at. kept_built (has_load (events_by c.args.client.now.setup.now s c.args.step.now)) _ _ c.play.ensures.kept
-
-pub returns-in-Join-clause-loads : goal.returns-in-Join-clause-loads
-returns-in-Join-clause-loads g c = λ s at. kept_built (has_load (events_by c.args.client.now.setup.now s c.args.step.now)) _ _ c.join.ensures.kept
-
-pub returns-in-Cut-clause-loads : goal.returns-in-Cut-clause-loads
-returns-in-Cut-clause-loads g c = λ s at. kept_built (has_load (events_by c.args.client.now.setup.now s c.args.step.now)) _ _ c.cut.ensures.kept
-
-pub returns-in-Bend-clause-loads : goal.returns-in-Bend-clause-loads
-returns-in-Bend-clause-loads g c = λ s at. kept_built (has_load (events_by c.args.client.now.setup.now s c.args.step.now)) _ _ c.bend.ensures.kept
+    record {
+      made = subst (λ x. IfOk c.rise.result (λ events. Makes setup x life c.args.exchange.now life c.rise.new.self events)) (sym c.in-Up.is)
+          (up_makes setup c.in-Up.number life c.args.exchange.now c.rise.new.self c.rise.result (c.rise.ensures.stands setup) (c.rise.ensures.events setup));
+      sound = anyway c.rise.result c.requires.may.acts.sound;
+      built = search rules;
+      most = search rules;
+      loads = λ s at. unbuilt (has_load (events_by setup s c.args.step.now)) _;
+      setup = refl;
+      rules = search rules;
+    }
 
 -- ---- what takes no memory
 
@@ -56,7 +118,7 @@ pub returns-in-Up-clause-idle : goal.returns-in-Up-clause-idle
 returns-in-Up-clause-idle g c =
     let client = c.args.client.now in
     let life = life_at client.stage client.board in
-    let is_client = subst (λ (x : Step). IsClient c.args.exchange.now.server (client_of x)) c.in-Up.is c.requires.client in
+    let is_client = subst (λ (x : Step). IsClient c.args.exchange.now.server (client_of x)) c.in-Up.is c.requires.may.acts.client in
     subst (λ (x : Step). WhereIdle client.setup.now x life c.args.exchange.now (IsOk c.rise.result)) (sym c.in-Up.is)
     (up_idle client.setup.now c.in-Up.number life c.args.exchange.now (IsOk c.rise.result) is_client (λ none. subst IsOk (sym (c.rise.ensures.none none)) refl))
 
@@ -64,7 +126,7 @@ pub returns-in-Down-clause-idle : goal.returns-in-Down-clause-idle
 returns-in-Down-clause-idle g c =
     let client = c.args.client.now in
     let life = life_at client.stage client.board in
-    let is_client = subst (λ (x : Step). IsClient c.args.exchange.now.server (client_of x)) c.in-Down.is c.requires.client in
+    let is_client = subst (λ (x : Step). IsClient c.args.exchange.now.server (client_of x)) c.in-Down.is c.requires.may.acts.client in
     subst (λ (x : Step). WhereIdle client.setup.now x life c.args.exchange.now (IsOk c.down.result)) (sym c.in-Down.is)
     (down_idle client.setup.now c.in-Down.number life c.args.exchange.now (IsOk c.down.result) is_client c.down.ensures.idle)
 
@@ -87,11 +149,11 @@ returns-in-Cut-clause-idle g c =
     let client = c.args.client.now in
     let life = life_at client.stage client.board in
     subst (λ (x : Step). WhereIdle client.setup.now x life c.args.exchange.now (IsOk c.cut.result)) (sym c.in-Cut.is)
-    (cut_idle client.setup.now c.in-Cut.number life c.args.exchange.now (IsOk c.cut.result) c.cut.ensures.idle)
+    (cut_idle client.setup.now c.in-Cut.number life c.args.exchange.now (IsOk c.cut.result) c.cut.ensures.acts.idle)
 
 pub returns-in-Bend-clause-idle : goal.returns-in-Bend-clause-idle
 returns-in-Bend-clause-idle g c =
     let client = c.args.client.now in
     let life = life_at client.stage client.board in
     subst (λ (x : Step). WhereIdle client.setup.now x life c.args.exchange.now (IsOk c.bend.result)) (sym c.in-Bend.is)
-    (bend_idle client.setup.now c.in-Bend.number c.in-Bend.entity c.in-Bend.health life c.args.exchange.now (IsOk c.bend.result) c.bend.ensures.idle)
+    (bend_idle client.setup.now c.in-Bend.number c.in-Bend.entity c.in-Bend.health life c.args.exchange.now (IsOk c.bend.result) c.bend.ensures.acts.idle)

@@ -1,6 +1,6 @@
 -- What a client says that gives a command goes up.
 use Rattle.sim_session.proofs.{Beside.order_makes, Beside.order_small, Idling.nothing_said}
-use Rattle.sim_session.proofs.Common.{◌≡◌, IfOk, All, IsSmallUp, life_at, orders, said_events, subst, sym, ◌∙◌}
+use Rattle.sim_session.proofs.Common.{◌≡◌, IfOk, All, anyway, IsSmallUp, life_at, orders, said_events, subst, sym, ◌∙◌}
 use Rattle.sim_session.proofs.acting.order.Goals as goal
 
 pub tell-requires-clause-small : goal.tell-requires-clause-small
@@ -11,22 +11,23 @@ tell-requires-clause-small g c =
     (order_small client.setup.now c.args.command.now (life_at client.stage client.board) c.in_ok-did.did (life_at new.stage new.board) c.requires.few
     c.in_ok-did.ensures.answers)
 
-pub returns-clause-made : goal.returns-clause-made
-returns-clause-made g c =
-    let client = c.args.client.now in
-    let new = c.order.new.self in
-    let said = c.as_slice.ensures ∙ c.ups_of-ups.ensures in
-    order_makes client.setup.now c.args.number c.args.command.now (life_at client.stage client.board) (life_at new.stage new.board) c.args.exchange.now
-    c.tell.new.exchange c.in_ok-did.did c.tell.result
-    c.in_ok-did.ensures.answers
-    (λ s acted conveys is. c.tell.ensures.sent client.setup.now s acted conveys (said ∙ is))
-    (subst (λ ups. IfOk c.tell.result (λ events. events ≡ said_events c.args.number ups)) said c.tell.ensures.printed)
-
-pub returns-clause-idle : goal.returns-clause-idle
-returns-clause-idle g c = λ none.
+pub returns : goal.returns
+returns g c =
     let client = c.args.client.now in
     let new = c.order.new.self in
     let old_life = life_at client.stage client.board in
-    c.tell.ensures.none
-    (c.as_slice.ensures ∙ c.ups_of-ups.ensures ∙ nothing_said (orders client.setup.now c.args.command.now old_life) old_life c.in_ok-did.did
-    (life_at new.stage new.board) c.in_ok-did.ensures.answers none)
+    let said = c.as_slice.ensures ∙ c.ups_of-ups.ensures in
+    record {
+      made = order_makes client.setup.now c.args.number c.args.command.now old_life (life_at new.stage new.board) c.args.exchange.now
+          c.tell.new.exchange c.in_ok-did.did c.tell.result
+          c.in_ok-did.ensures.answers
+          (λ s acted conveys is. c.tell.ensures.sent client.setup.now s acted conveys (said ∙ is))
+          (subst (λ ups. IfOk c.tell.result (λ events. events ≡ said_events c.args.number ups)) said c.tell.ensures.printed);
+      idle = λ none.
+          c.tell.ensures.none (said ∙ nothing_said (orders client.setup.now c.args.command.now old_life) old_life c.in_ok-did.did
+          (life_at new.stage new.board) c.in_ok-did.ensures.answers none);
+      sound = anyway c.tell.result c.in_ok-did.ensures.sound;
+      kept = c.in_ok-did.ensures.keeps.kept;
+      setup = c.in_ok-did.ensures.keeps.setup;
+      rules = c.tell.ensures.rules;
+    }

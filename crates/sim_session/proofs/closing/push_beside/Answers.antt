@@ -6,7 +6,8 @@ use Rattle.sim_session.proofs.closing.push_beside.Goals as goal
 pub push_pair-requires-clause-right : goal.push_pair-requires-clause-right
 push_pair-requires-clause-right g c =
     let lt : c.loop-index.index < length c.args.clients.now = search rules in
-    (at_place (IsMember c.args.setup.now (λ i. (g.dyn-2.0.entry i).1)) c.args.clients.now c.loop-index.index c.index-clients-index.result c.requires.members lt
+    (at_place (IsMember c.args.setup.now (λ i. (g.dyn-2.0.entry i).1)) c.args.clients.now c.loop-index.index c.index-clients-index.result
+    c.requires.clients.members lt
     c.index-clients-index.is).sound
 
 pub loop-index-preserved : goal.loop-index-preserved

@@ -1,7 +1,7 @@
 -- The session stands for that over the steps so far, and the text has the lines of their events.
-use Rattle.{sim_session.specs.SessionWords.IsSessionBy, std.specs.Prelude.vec_capacity}
+use Rattle.{sim_session.specs.Going.KeepsBy, sim_session.specs.SessionWords.IsSessionBy}
 use Rattle.sim_session.proofs.TextCommon.{session as session_over, StandsFor, systems_by}
-use Rattle.sim_session.proofs.TextCommon.{◌≡◌, ◌++◌, length, take, string_bytes, AllBuiltAtMost, events_after, lines_of, loads_in, opened, seen_in}
+use Rattle.sim_session.proofs.TextCommon.{◌≡◌, ◌++◌, take, string_bytes, AllBuiltAtMost, events_after, lines_of, loads_in, opened, seen_in}
 use Rattle.sim_session.proofs.hosting.push_steps.Given as goal
 
 abbrev pub invariant-loop-step : goal.invariant-loop-step
@@ -15,8 +15,5 @@ invariant-loop-step g l =
           l.fn.session.setup.now.players
           (systems_by l.fn.session.clients.items (λ i v. (goal.System-dyn g (i, v)).meaning v))
           (systems_by l.session.clients.items (λ i v. (goal.System-dyn g (i, v)).meaning v));
-      setup : l.session.setup.now ≡ l.fn.session.setup.now;
-      spare : l.session.rigs.items ≡ l.fn.session.rigs.items;
-      count : length l.session.clients.items ≡ length l.fn.session.clients.items;
-      room : vec_capacity l.session.rigs ≡ vec_capacity l.fn.session.rigs;
+      keeps : KeepsBy (λ i v. (goal.System-dyn g (i, v)).meaning v) l.fn.session l.session;
     }

@@ -1,6 +1,7 @@
 -- The commands of the released turns, after the beginning and all steps.
 use Rattle.sim_session.proofs.{Stopping.built_at_start, Stopping.built_with_steps}
 use Rattle.sim_session.proofs.TextCommon.{loads_in, opened, Setup, subst, systems_by, systems_on, ◌∙◌, AllBuiltAtMost, events_after, length-map}
+use Rattle.sim_session.proofs.Keeping.{keeps_on}
 use Rattle.sim_session.proofs.recording.record.Goals as goal
 
 pub returns-in_err-start-clause-built : goal.returns-in_err-start-clause-built
@@ -17,7 +18,8 @@ returns-in_err-make_steps-clause-built g c =
     let next = systems_by c.start.new.self.clients.items (λ i v. (goal.System-dyn g (i, v)).meaning v) in
     let many = length-map c.args.session.now.clients.items (λ x. systems_on x.board (λ i v. (goal.System-dyn g (i, v)).meaning v)) ∙ c.requires.session.count in
     let last = systems_by c.make_steps.new.session.clients.items (λ i v. (goal.System-dyn g (i, v)).meaning v) in
-    let steps = subst (λ (s : Setup). AllBuiltAtMost (loads_in (events_after s (opened s list.clients) list.steps)) s.players next last) c.start.ensures.setup
+    let steps = subst (λ (s : Setup). AllBuiltAtMost (loads_in (events_after s (opened s list.clients) list.steps)) s.players next last)
+    c.start.ensures.goes.keeps.setup
     c.make_steps.ensures.built in
     built_with_steps c.args.session.now.setup.now list first next last many c.start.ensures.built steps
 
@@ -28,6 +30,17 @@ returns-clause-built g c =
     let next = systems_by c.start.new.self.clients.items (λ i v. (goal.System-dyn g (i, v)).meaning v) in
     let many = length-map c.args.session.now.clients.items (λ x. systems_on x.board (λ i v. (goal.System-dyn g (i, v)).meaning v)) ∙ c.requires.session.count in
     let last = systems_by c.make_steps.new.session.clients.items (λ i v. (goal.System-dyn g (i, v)).meaning v) in
-    let steps = subst (λ (s : Setup). AllBuiltAtMost (loads_in (events_after s (opened s list.clients) list.steps)) s.players next last) c.start.ensures.setup
+    let steps = subst (λ (s : Setup). AllBuiltAtMost (loads_in (events_after s (opened s list.clients) list.steps)) s.players next last)
+    c.start.ensures.goes.keeps.setup
     c.make_steps.ensures.built in
     built_with_steps c.args.session.now.setup.now list first next last many c.start.ensures.built steps
+
+pub returns-in_err-make_steps-clause-keeps : goal.returns-in_err-make_steps-clause-keeps
+returns-in_err-make_steps-clause-keeps g c =
+    keeps_on (λ i v. (goal.System-dyn g (i, v)).meaning v) c.args.session.now c.start.new.self c.make_steps.new.session c.start.ensures.goes.keeps
+    c.make_steps.ensures.goes.keeps
+
+pub returns-clause-keeps : goal.returns-clause-keeps
+returns-clause-keeps g c =
+    keeps_on (λ i v. (goal.System-dyn g (i, v)).meaning v) c.args.session.now c.start.new.self c.make_steps.new.session c.start.ensures.goes.keeps
+    c.make_steps.ensures.goes.keeps

@@ -6,7 +6,7 @@ use Rattle.sim_session.proofs.rigs.seat.Goals as goal
 pub loop-i-preserved : goal.loop-i-preserved
 loop-i-preserved g c =
     let was = c.loop-i.invariant in
-    let now = c.seat_one.ensures in
+    let now = c.seat_one.ensures.seats in
     let before = c.loop-i.rigs.items in
     let after = c.seat_one.new.rigs.items in
     record {
@@ -14,7 +14,7 @@ loop-i-preserved g c =
       systems = now.systems ∙ was.systems;
       members = now.members;
       off = now.off ∙ ap (λ l. l ++ Off ∷ []) was.off ∙ replicate-append-replicate c.loop-i.i 1 Off;
-      room = omega (arith, was.room, now.room);
+      room = omega (arith, was.room, c.seat_one.ensures.room);
       kept = now.kept ∙ was.kept;
       kinds = holds_behind HaveKinds (λ r. rig_by r (λ i v. (goal.System-dyn g (i, v)).meaning v)) before after now.rigs was.kinds;
       cleared = holds_behind AreCleared (λ r. rig_by r (λ i v. (goal.System-dyn g (i, v)).meaning v)) before after now.rigs was.cleared;

@@ -20,7 +20,7 @@ returns-clause-session g c =
       finish = record {
         kinds = holds_in_front HaveKinds (systems_by clients (λ i v. (goal.System-dyn g (i, v)).meaning v))
             (rigs_by rigs (λ i v. (goal.System-dyn g (i, v)).meaning v))
-            (rigs_by c.args.rigs.items (λ i v. (goal.System-dyn g (i, v)).meaning v)) c.seat.ensures.systems c.requires.kinds;
+            (rigs_by c.args.rigs.items (λ i v. (goal.System-dyn g (i, v)).meaning v)) c.seat.ensures.systems c.requires.fresh.kinds;
         room = omega (
           arith,
           count,

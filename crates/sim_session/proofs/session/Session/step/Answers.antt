@@ -1,34 +1,30 @@
 -- One client acts in its place in the list, and all others are as they were.
 use Rattle.sim_session.proofs.{Beside.then_ok, Beside.then_on, Common.systems_on, Common.◌∙◌, Seating.changed, Seating.kinds_put, Seating.was_there}
 use Rattle.sim_session.proofs.Common.{has_load, IsMemberBy, length-set, life_at, lives_of, Makes, session, Setup, stepped_by, subst, sym, systems_by}
-use Rattle.sim_session.proofs.Common.{◌-◌, ◌<◌, List, length, get_or, set, All-set, ap, AreBuilt, AreBuiltIf, arith, ChangeAt, client_of, Event, events_by}
+use Rattle.sim_session.proofs.Common.{◌+◌, ◌-◌, ◌<◌, ◌≤◌, vec_capacity, refl, rules, List, length, get_or}
+use Rattle.sim_session.proofs.Common.{set, All-set, ap, AreBuilt, AreBuiltIf, arith, ChangeAt, client_of, Event, events_by}
 use Rattle.sim_session.proofs.Stepping.{events_are, goes_on_at, one_beside, some_beside, stepped_is}
 use Rattle.sim_session.proofs.session.Session.step.Goals as goal
 
-pub act-requires-clause-sound : goal.act-requires-clause-sound
-act-requires-clause-sound g c =
+pub act-requires-clause-may : goal.act-requires-clause-may
+act-requires-clause-may g c =
     let self = c.args.self.now in
     let i = c.client_of-number.result - 1 in
     let is = c.client_of-number.ensures in
     let client = c.index_mut-client.result.now in
-    let within : i < length self.clients.items = omega (arith, is, c.requires.session.count, c.requires.client.0, c.requires.client.1) in
+    let within : i < length self.clients.items = omega (arith, is, c.requires.on.session.count, c.requires.client.0, c.requires.client.1) in
     let member = subst (λ x. IsMemberBy self.setup.now x (λ i v. (goal.System-dyn g (i, v)).meaning v)) (sym c.index_mut-client.ensures.value)
-    (c.requires.session.members i client within) in
-    member.sound
-
-pub act-requires-clause-some : goal.act-requires-clause-some
-act-requires-clause-some g c =
-    let self = c.args.self.now in
-    let i = c.client_of-number.result - 1 in
-    let is = c.client_of-number.ensures in
-    let client = c.index_mut-client.result.now in
-    let within : i < length self.clients.items = omega (arith, is, c.requires.session.count, c.requires.client.0, c.requires.client.1) in
-    let member = subst (λ x. IsMemberBy self.setup.now x (λ i v. (goal.System-dyn g (i, v)).meaning v)) (sym c.index_mut-client.ensures.value)
-    (c.requires.session.members i client within) in
-    some_beside self.setup.now c.requires.session.limits c.args.step.now c.requires.client client.setup.now
-    (record { lives = lives_of self.clients.items; held = self.exchange }) (life_at client.stage client.board)
-    member.same (was_there (λ x. life_at x.stage x.board) self.clients.items (client_of c.args.step.now - 1) client _ (omega (arith, within, is))
-    (c.index_mut-client.ensures.value ∙ ap (λ k. get_or self.clients.items (k - 1) client) is)) c.requires.some
+    (c.requires.on.session.members i client within) in
+    record {
+      acts = record {
+        sound = member.sound;
+        client = search rules;
+      };
+      some = some_beside self.setup.now c.requires.on.session.limits c.args.step.now c.requires.client client.setup.now
+          (record { lives = lives_of self.clients.items; held = self.exchange }) (life_at client.stage client.board)
+          member.same (was_there (λ x. life_at x.stage x.board) self.clients.items (client_of c.args.step.now - 1) client _ (omega (arith, within, is))
+          (c.index_mut-client.ensures.value ∙ ap (λ k. get_or self.clients.items (k - 1) client) is)) c.requires.on.some;
+    }
 
 pub returns-clause-steps : goal.returns-clause-steps
 returns-clause-steps g c =
@@ -36,124 +32,92 @@ returns-clause-steps g c =
     let i = c.client_of-number.result - 1 in
     let is = c.client_of-number.ensures in
     let client = c.index_mut-client.result.now in
-    let within : i < length self.clients.items = omega (arith, is, c.requires.session.count, c.requires.client.0, c.requires.client.1) in
+    let within : i < length self.clients.items = omega (arith, is, c.requires.on.session.count, c.requires.client.0, c.requires.client.1) in
     let member = subst (λ x. IsMemberBy self.setup.now x (λ i v. (goal.System-dyn g (i, v)).meaning v)) (sym c.index_mut-client.ensures.value)
-    (c.requires.session.members i client within) in
+    (c.requires.on.session.members i client within) in
     let new = c.act.new.client in
-    then_ok c.act.result (λ events makes. goes_on_at self.setup.now c.requires.session.limits c.args.step.now c.requires.client (λ x. life_at x.stage x.board)
+    then_ok c.act.result (λ events makes. goes_on_at self.setup.now c.requires.on.session.limits c.args.step.now c.requires.client
+    (λ x. life_at x.stage x.board)
     self.clients.items i client new self.exchange c.act.new.exchange events
-    c.requires.session.count (ap (λ k. k - 1) is) c.index_mut-client.ensures.value
+    c.requires.on.session.count (ap (λ k. k - 1) is) c.index_mut-client.ensures.value
     (subst (λ m. Makes m c.args.step.now (life_at client.stage client.board) self.exchange (life_at new.stage new.board) c.act.new.exchange events) member.same
-    makes)) c.act.ensures.made
+    makes)) c.act.ensures.loads.made
 
-pub returns-clause-session : goal.returns-clause-session
-returns-clause-session g c =
+pub returns-clause-goes : goal.returns-clause-goes
+returns-clause-goes g c =
     let self = c.args.self.now in
     let i = c.client_of-number.result - 1 in
     let is = c.client_of-number.ensures in
     let client = c.index_mut-client.result.now in
-    let within : i < length self.clients.items = omega (arith, is, c.requires.session.count, c.requires.client.0, c.requires.client.1) in
+    let within : i < length self.clients.items = omega (arith, is, c.requires.on.session.count, c.requires.client.0, c.requires.client.1) in
     let member = subst (λ x. IsMemberBy self.setup.now x (λ i v. (goal.System-dyn g (i, v)).meaning v)) (sym c.index_mut-client.ensures.value)
-    (c.requires.session.members i client within) in
+    (c.requires.on.session.members i client within) in
     let new = c.act.new.client in
-    let built = c.act.ensures.most in
-    then_on c.act.result (λ sound. record {
-      limits = c.requires.session.limits;
-      members = All-set (λ x. IsMemberBy self.setup.now x (λ i v. (goal.System-dyn g (i, v)).meaning v)) self.clients.items i new
-          (record { sound = sound; same = c.act.ensures.setup ∙ member.same }) c.requires.session.members;
-      count = length-set self.clients.items i new ∙ c.requires.session.count;
-      served = ap (λ r. r.clients) c.act.ensures.rules ∙ c.requires.session.served;
-      finish = record {
-        kinds = kinds_put (λ x. systems_on x.board (λ i v. (goal.System-dyn g (i, v)).meaning v)) self.clients.items i new built.kinds
-            c.requires.session.finish.kinds;
-        room = omega (arith, length-set self.clients.items i new, c.requires.session.finish.room);
-      };
-    }) c.act.ensures.sound
-
-pub returns-clause-finish : goal.returns-clause-finish
-returns-clause-finish g c =
-    let self = c.args.self.now in
-    let i = c.client_of-number.result - 1 in
-    let is = c.client_of-number.ensures in
-    let client = c.index_mut-client.result.now in
-    let within : i < length self.clients.items = omega (arith, is, c.requires.session.count, c.requires.client.0, c.requires.client.1) in
-    let new = c.act.new.client in
+    let acted = c.act.ensures.loads in
+    let kinds = kinds_put (λ x. systems_on x.board (λ i v. (goal.System-dyn g (i, v)).meaning v)) self.clients.items i new acted.most.kinds
+    c.requires.on.session.finish.kinds in
+    let many = length-set self.clients.items i new in
+    let room : length (set self.clients.items i new) + length self.rigs.items ≤ vec_capacity self.rigs = omega
+    (arith, many, c.requires.on.session.finish.room) in
     record {
-      kinds = kinds_put (λ x. systems_on x.board (λ i v. (goal.System-dyn g (i, v)).meaning v)) self.clients.items i new c.act.ensures.most.kinds
-          c.requires.session.finish.kinds;
-      room = omega (arith, length-set self.clients.items i new, c.requires.session.finish.room);
+      session = then_on c.act.result (λ sound. record {
+        limits = c.requires.on.session.limits;
+        members = All-set (λ x. IsMemberBy self.setup.now x (λ i v. (goal.System-dyn g (i, v)).meaning v)) self.clients.items i new
+            (record { sound = sound; same = acted.setup ∙ member.same }) c.requires.on.session.members;
+        count = many ∙ c.requires.on.session.count;
+        served = ap (λ r. r.clients) acted.rules ∙ c.requires.on.session.served;
+        finish = record { kinds = kinds; room = room };
+      }) acted.sound;
+      keeps = record {
+        finish = record { kinds = kinds; room = room };
+        setup = refl;
+        spare = refl;
+        room = refl;
+        count = many;
+      };
     }
 
-pub returns-clause-built : goal.returns-clause-built
-returns-clause-built g c =
+pub returns-clause-takes : goal.returns-clause-takes
+returns-clause-takes g c =
     let self = c.args.self.now in
     let i = c.client_of-number.result - 1 in
     let is = c.client_of-number.ensures in
     let client = c.index_mut-client.result.now in
-    let within : i < length self.clients.items = omega (arith, is, c.requires.session.count, c.requires.client.0, c.requires.client.1) in
-    let new = c.act.new.client in
-    let old_systems = systems_by self.clients.items (λ i v. (goal.System-dyn g (i, v)).meaning v) in
-    then_ok c.act.result (λ events built. subst (λ k. ChangeAt (AreBuiltIf (has_load events)) (k - 1) old_systems
-    (systems_by (set self.clients.items i new) (λ i v. (goal.System-dyn g (i, v)).meaning v))) is
-    (changed (AreBuiltIf (has_load events)) (λ x. systems_on x.board (λ i v. (goal.System-dyn g (i, v)).meaning v)) self.clients.items i client new within
-    c.index_mut-client.ensures.value built)) c.act.ensures.built
-
-pub returns-clause-most : goal.returns-clause-most
-returns-clause-most g c =
-    let self = c.args.self.now in
-    let i = c.client_of-number.result - 1 in
-    let is = c.client_of-number.ensures in
-    let client = c.index_mut-client.result.now in
-    let within : i < length self.clients.items = omega (arith, is, c.requires.session.count, c.requires.client.0, c.requires.client.1) in
-    let new = c.act.new.client in
-    let old_systems = systems_by self.clients.items (λ i v. (goal.System-dyn g (i, v)).meaning v) in
-    subst (λ k. ChangeAt AreBuilt (k - 1) old_systems (systems_by (set self.clients.items i new) (λ i v. (goal.System-dyn g (i, v)).meaning v))) is
-    (changed AreBuilt (λ x. systems_on x.board (λ i v. (goal.System-dyn g (i, v)).meaning v)) self.clients.items i client new within
-    c.index_mut-client.ensures.value c.act.ensures.most)
-
-pub returns-clause-loads : goal.returns-clause-loads
-returns-clause-loads g c = λ active steps few stands.
-    let self = c.args.self.now in
-    let i = c.client_of-number.result - 1 in
-    let is = c.client_of-number.ensures in
-    let client = c.index_mut-client.result.now in
-    let within : i < length self.clients.items = omega (arith, is, c.requires.session.count, c.requires.client.0, c.requires.client.1) in
+    let within : i < length self.clients.items = omega (arith, is, c.requires.on.session.count, c.requires.client.0, c.requires.client.1) in
     let member = subst (λ x. IsMemberBy self.setup.now x (λ i v. (goal.System-dyn g (i, v)).meaning v)) (sym c.index_mut-client.ensures.value)
-    (c.requires.session.members i client within) in
+    (c.requires.on.session.members i client within) in
+    let new = c.act.new.client in
     let own = life_at client.stage client.board in
     let x = c.args.step.now in
-    let s = session self.setup.now active steps in
-    let here = was_there (λ x. life_at x.stage x.board) self.clients.items (client_of x - 1) client _ (omega (arith, within, is))
-    (c.index_mut-client.ensures.value ∙ ap (λ k. get_or self.clients.items (k - 1) client) is) in
-    let at = one_beside self.setup.now c.requires.session.limits x c.requires.client client.setup.now
-    (record { lives = lives_of self.clients.items; held = self.exchange }) own member.same here s stands in
-    let new = c.act.new.client in
-    let events = events_are self.setup.now c.requires.session.limits x c.requires.client s in
-    let there = sym (events ∙ ap (λ (m : Setup). events_by m s x) (sym member.same)) in
+    let acted = c.act.ensures.loads in
     let old_systems = systems_by self.clients.items (λ i v. (goal.System-dyn g (i, v)).meaning v) in
     let new_systems = systems_by (set self.clients.items i new) (λ i v. (goal.System-dyn g (i, v)).meaning v) in
-    subst (λ (es : List Event). ChangeAt (AreBuiltIf (has_load es)) (client_of x - 1) old_systems new_systems) there
-    (subst (λ k. ChangeAt (AreBuiltIf (has_load (events_by client.setup.now s x))) (k - 1) old_systems new_systems) is
-    (changed (AreBuiltIf (has_load (events_by client.setup.now s x))) (λ x. systems_on x.board (λ i v. (goal.System-dyn g (i, v)).meaning v)) self.clients.items
-    i client new within
-    c.index_mut-client.ensures.value (c.act.ensures.loads s at)))
-
-pub returns-clause-idle : goal.returns-clause-idle
-returns-clause-idle g c = λ active steps few stands idle.
-    let self = c.args.self.now in
-    let i = c.client_of-number.result - 1 in
-    let is = c.client_of-number.ensures in
-    let client = c.index_mut-client.result.now in
-    let within : i < length self.clients.items = omega (arith, is, c.requires.session.count, c.requires.client.0, c.requires.client.1) in
-    let member = subst (λ x. IsMemberBy self.setup.now x (λ i v. (goal.System-dyn g (i, v)).meaning v)) (sym c.index_mut-client.ensures.value)
-    (c.requires.session.members i client within) in
-    let own = life_at client.stage client.board in
-    let x = c.args.step.now in
-    let s = session self.setup.now active steps in
     let here = was_there (λ x. life_at x.stage x.board) self.clients.items (client_of x - 1) client _ (omega (arith, within, is))
     (c.index_mut-client.ensures.value ∙ ap (λ k. get_or self.clients.items (k - 1) client) is) in
-    let at = one_beside self.setup.now c.requires.session.limits x c.requires.client client.setup.now
-    (record { lives = lives_of self.clients.items; held = self.exchange }) own member.same here s stands in
-    c.act.ensures.idle s at
-    (ap (λ (m : Setup). events_by m s x) member.same ∙ sym (events_are self.setup.now c.requires.session.limits x c.requires.client s) ∙ idle.shown)
-    (ap (λ (m : Setup). stepped_by m s x) member.same ∙ sym (stepped_is self.setup.now c.requires.session.limits x c.requires.client s) ∙ idle.same)
+    record {
+      built = then_ok c.act.result (λ events built. subst (λ k. ChangeAt (AreBuiltIf (has_load events)) (k - 1) old_systems new_systems) is
+          (changed (AreBuiltIf (has_load events)) (λ x. systems_on x.board (λ i v. (goal.System-dyn g (i, v)).meaning v)) self.clients.items i client new
+          within
+          c.index_mut-client.ensures.value built)) acted.built;
+      most = subst (λ k. ChangeAt AreBuilt (k - 1) old_systems new_systems) is
+          (changed AreBuilt (λ x. systems_on x.board (λ i v. (goal.System-dyn g (i, v)).meaning v)) self.clients.items i client new within
+          c.index_mut-client.ensures.value acted.most);
+      loads = λ active steps few stands.
+          let s = session self.setup.now active steps in
+          let at = one_beside self.setup.now c.requires.on.session.limits x c.requires.client client.setup.now
+          (record { lives = lives_of self.clients.items; held = self.exchange }) own member.same here s stands in
+          let events = events_are self.setup.now c.requires.on.session.limits x c.requires.client s in
+          let there = sym (events ∙ ap (λ (m : Setup). events_by m s x) (sym member.same)) in
+          subst (λ (es : List Event). ChangeAt (AreBuiltIf (has_load es)) (client_of x - 1) old_systems new_systems) there
+          (subst (λ k. ChangeAt (AreBuiltIf (has_load (events_by client.setup.now s x))) (k - 1) old_systems new_systems) is
+          (changed (AreBuiltIf (has_load (events_by client.setup.now s x))) (λ x. systems_on x.board (λ i v. (goal.System-dyn g (i, v)).meaning v))
+          self.clients.items i client new within
+          c.index_mut-client.ensures.value (acted.loads s at)));
+      idle = λ active steps few stands idle.
+          let s = session self.setup.now active steps in
+          let at = one_beside self.setup.now c.requires.on.session.limits x c.requires.client client.setup.now
+          (record { lives = lives_of self.clients.items; held = self.exchange }) own member.same here s stands in
+          c.act.ensures.idle s at
+          (ap (λ (m : Setup). events_by m s x) member.same ∙ sym (events_are self.setup.now c.requires.on.session.limits x c.requires.client s) ∙ idle.shown)
+          (ap (λ (m : Setup). stepped_by m s x) member.same ∙ sym (stepped_is self.setup.now c.requires.on.session.limits x c.requires.client s) ∙ idle.same);
+    }

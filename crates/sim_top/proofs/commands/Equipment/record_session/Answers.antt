@@ -10,17 +10,20 @@ use Rattle.sim_top.proofs.Recorded.{behind_first, few_released, first_built, of_
 use Rattle.sim_top.specs.{Hosting.builds_with_log, Rigs.HasPlayedBy, Rigs.OfFirsts}
 use Rattle.sim_top.proofs.commands.Equipment.record_session.Goals as goal
 
-pub released_turns-turns-requires-clause-kinds : goal.released_turns-turns-requires-clause-kinds
-released_turns-turns-requires-clause-kinds g c =
-    All-map HaveKinds (λ rig. systems_by rig (λ i v. (goal.System-dyn g (i, v)).meaning v)) c.replace-all.result.items
-    (subst (λ rigs. All (λ rig. HaveKinds (systems_by rig (λ i v. (goal.System-dyn g (i, v)).meaning v))) rigs.items) (sym c.replace-all.ensures.value)
-    c.requires.fresh.eight.kinds)
-
-pub released_turns-turns-requires-clause-cleared : goal.released_turns-turns-requires-clause-cleared
-released_turns-turns-requires-clause-cleared g c =
-    All-map AreCleared (λ rig. systems_by rig (λ i v. (goal.System-dyn g (i, v)).meaning v)) c.replace-all.result.items
-    (subst (λ rigs. All (λ rig. AreCleared (systems_by rig (λ i v. (goal.System-dyn g (i, v)).meaning v))) rigs.items) (sym c.replace-all.ensures.value)
-    c.requires.fresh.cleared)
+pub released_turns-turns-requires-clause-begins : goal.released_turns-turns-requires-clause-begins
+released_turns-turns-requires-clause-begins g c =
+    record {
+      limits = c.requires.limits;
+      eight = subst (λ rigs. length rigs.items ≡ 8) (sym c.replace-all.ensures.value) c.requires.fresh.eight.count;
+      fresh = record {
+        kinds = All-map HaveKinds (λ rig. systems_by rig (λ i v. (goal.System-dyn g (i, v)).meaning v)) c.replace-all.result.items
+            (subst (λ rigs. All (λ rig. HaveKinds (systems_by rig (λ i v. (goal.System-dyn g (i, v)).meaning v))) rigs.items) (sym c.replace-all.ensures.value)
+            c.requires.fresh.eight.kinds);
+        cleared = All-map AreCleared (λ rig. systems_by rig (λ i v. (goal.System-dyn g (i, v)).meaning v)) c.replace-all.result.items
+            (subst (λ rigs. All (λ rig. AreCleared (systems_by rig (λ i v. (goal.System-dyn g (i, v)).meaning v))) rigs.items) (sym c.replace-all.ensures.value)
+            c.requires.fresh.cleared);
+      };
+    }
 
 pub record_turns-requires-clause-few : goal.record_turns-requires-clause-few
 record_turns-requires-clause-few g c =
@@ -43,17 +46,17 @@ record_turns-requires-clause-players g c =
 pub record_turns-requires-clause-eight : goal.record_turns-requires-clause-eight
 record_turns-requires-clause-eight g c =
     record {
-      count = c.released_turns-turns.ensures.eight;
+      count = c.released_turns-turns.ensures.rigs.back.eight;
       kinds = All-unmap HaveKinds (λ rig. systems_by rig (λ i v. (goal.System-dyn g (i, v)).meaning v)) c.released_turns-turns.result.1.items
-          c.released_turns-turns.ensures.kinds;
+          c.released_turns-turns.ensures.rigs.back.kinds;
     }
 
 pub returns-in_err-turns-clause-eight : goal.returns-in_err-turns-clause-eight
 returns-in_err-turns-clause-eight g c =
     record {
-      count = c.released_turns-turns.ensures.eight;
+      count = c.released_turns-turns.ensures.rigs.back.eight;
       kinds = All-unmap HaveKinds (λ rig. systems_by rig (λ i v. (goal.System-dyn g (i, v)).meaning v)) c.released_turns-turns.result.1.items
-          c.released_turns-turns.ensures.kinds;
+          c.released_turns-turns.ensures.rigs.back.kinds;
     }
 
 pub returns-in_err-turns-clause-built : goal.returns-in_err-turns-clause-built
@@ -63,7 +66,7 @@ returns-in_err-turns-clause-built g c =
     let back = rigs_by c.released_turns-turns.result.1.items (λ i v. (goal.System-dyn g (i, v)).meaning v) in
     let hosted = subst (λ rigs. AllBuiltAtMost (builds_of setup list) setup.players (rigs_by rigs.items (λ i v. (goal.System-dyn g (i, v)).meaning v)) back)
     c.replace-all.ensures.value
-    c.released_turns-turns.ensures.built in
+    c.released_turns-turns.ensures.rigs.built in
     all_built_so (builds_of setup list) (λ k. 0) (builds_with_log setup list) setup.players
     (rigs_by c.args.self.now.rigs.items (λ i v. (goal.System-dyn g (i, v)).meaning v)) back back (λ k. omega arith)
     hosted (none_built (λ k. 0) setup.players back)
@@ -100,7 +103,7 @@ returns-clause-built g c =
     let now = c.record_turns.new.self.rigs.items in
     let hosted = subst (λ rigs. AllBuiltAtMost (builds_of setup list) setup.players (rigs_by rigs.items (λ i v. (goal.System-dyn g (i, v)).meaning v))
     (rigs_by back (λ i v. (goal.System-dyn g (i, v)).meaning v))) c.replace-all.ensures.value
-    c.released_turns-turns.ensures.built in
+    c.released_turns-turns.ensures.rigs.built in
     all_built_so (builds_of setup list) (λ k. if k == 1 then 1 else 0) (builds_with_log setup list) setup.players
     (rigs_by c.args.self.now.rigs.items (λ i v. (goal.System-dyn g (i, v)).meaning v))
     (rigs_by back (λ i v. (goal.System-dyn g (i, v)).meaning v)) (rigs_by now (λ i v. (goal.System-dyn g (i, v)).meaning v)) (λ k. omega arith) hosted
@@ -113,4 +116,4 @@ returns-clause-spare g c =
     let players = c.args.setup.now.players in
     behind_first players c.released_turns-turns.result.1.items c.record_turns.new.self.rigs.items
     (omega (arith, c.requires.list.clients.0, c.requires.list.clients.1)) c.record_turns.ensures.others
-    ∙ c.released_turns-turns.ensures.spare ∙ ap (λ rigs. drop players rigs.items) c.replace-all.ensures.value
+    ∙ c.released_turns-turns.ensures.rigs.back.spare ∙ ap (λ rigs. drop players rigs.items) c.replace-all.ensures.value
