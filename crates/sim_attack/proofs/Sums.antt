@@ -1,13 +1,12 @@
 -- What all landed hits on each row take, when one more lands and when a row has fought.
-use Rattle.std.specs.{List.Sorted.IsStrictlyIncreasing, Prelude.◌==◌, Prelude.sum_by}
-use Rattle.std.proofs.Common.{ap, arith, length-set, sym, ⊎_elim, ◌∙◌}
-use Rattle.std.proofs.Common.{◌≡◌, ℕ, ◌+◌, ◌-◌, ◌<◌, Bool, true, false, cond, List, [], ◌∷◌, ◌++◌, map, length, get_or, set, Some, filter, Option, refl}
-use Rattle.std.proofs.lemmas.Bool.{cases_eq, cond-false, cond-true, eq-eqb, ne_eqb}
-use Rattle.std.proofs.lemmas.List.{get_or-set_other, get_or-set_same, get_or_default, Elements.filter-append, Sums.sum_by-append}
-use Rattle.sim_attack.specs.Fights.{AreTaken, fought_on}
-use Rattle.sim_base.specs.{Filters.is_near, Hit.fights, Hit.Hit, Hit.lands, Hit.resist_of, Hit.rests, Hit.strikes, Hit.strikes_near, Hit.taken, Hit.taken_from}
-use Rattle.sim_base.{proofs.RowPlaces.apart_at, specs.Numbers.next_word, specs.Rows.arms_of, specs.Rows.id_of, specs.Rows.row_of}
-use Rattle.sim_base.specs.declared.{setup.Setup.Setup, state.Aim.Aim, state.Row.Row, state.State.State, template.Arms.Arms}
+use Rattle.{sim_attack.specs.Fights.AreTaken, sim_attack.specs.Fights.fought_on, sim_base.proofs.RowPlaces.apart_at, sim_base.specs.Filters.is_near}
+use Rattle.sim_base.specs.Hit.{fights, Hit, lands, resist_of, rests, strikes, strikes_near, taken, taken_from}
+use Rattle.sim_base.specs.{Numbers.next_word, Rows.arms_of, Rows.id_of, Rows.row_of, declared.setup.Setup.Setup, declared.state.Aim.Aim, declared.state.Row.Row}
+use Rattle.{sim_base.specs.declared.state.State.State, sim_base.specs.declared.template.Arms.Arms, std.proofs.Common.[], std.proofs.Common.◌++◌}
+use Rattle.std.proofs.Common.{◌+◌, ◌-◌, ◌<◌, ◌∙◌, ◌∷◌, ◌≡◌, ap, arith, Bool, cond, false, filter, get_or, length, length-set, List, map, Option, refl, set}
+use Rattle.std.proofs.{Common.Some, Common.sym, Common.true, Common.ℕ, Common.⊎_elim, lemmas.Bool.cases_eq, lemmas.Bool.cond-false, lemmas.Bool.cond-true}
+use Rattle.std.proofs.lemmas.{Bool.eq-eqb, Bool.ne_eqb, List.get_or-set_other, List.get_or-set_same, List.get_or_default, List.Elements.filter-append}
+use Rattle.std.{proofs.lemmas.List.Sums.sum_by-append, specs.List.Sorted.IsStrictlyIncreasing, specs.Prelude.◌==◌, specs.Prelude.sum_by}
 
 -- one more hit
 taken_from-more : (id : ℕ) (hits : List Hit) (h : Hit) → taken_from id (hits ++ h ∷ []) ≡ taken_from id hits + cond (h.target == id) h.taken 0

@@ -1,10 +1,9 @@
 -- Aims by which rows keep their targets, one after another.
 use Rattle.sim_base.specs.declared.change.Change.TheVariants as change
-use Rattle.sim_board.proofs.Common.{AllFit, applied, AreFed, Change, fitting_keeps_loose, found, IsSetup, IsLooselyValid, Row, row_of, Setup, State, Aim, subst}
-use Rattle.sim_board.proofs.Common.{sym, target_of, MatchOption, ◌∙◌, ◌≡◌, ℕ, suc, ◌+◌, ◌<◌, List, ◌∷◌, length, get_or, drop, Some, None, Option, refl, ap}
-use Rattle.sim_board.proofs.Feeding.{all_fed_same, same_aim}
-use Rattle.std.proofs.Common.{add-one}
-use Rattle.{sim_board.specs.ChangeKinds.KeepsTarget, sim_board.specs.Leading.LeadsOn, std.proofs.Math.Seq.drop-cons, sim_system.specs.Meanings.Systems}
+use Rattle.sim_board.proofs.Common.{◌+◌, ◌<◌, ◌∙◌, ◌∷◌, ◌≡◌, Aim, AllFit, ap, applied, AreFed, Change, drop, fitting_keeps_loose, found, get_or, IsLooselyValid}
+use Rattle.sim_board.proofs.Common.{IsSetup, length, List, MatchOption, None, Option, refl, Row, row_of, Setup, Some, State, subst, suc, sym, target_of, ℕ}
+use Rattle.sim_board.{proofs.Feeding.all_fed_same, proofs.Feeding.same_aim, specs.ChangeKinds.KeepsTarget, specs.Leading.LeadsOn}
+use Rattle.{sim_system.specs.Meanings.Systems, std.proofs.Common.add-one, std.proofs.Math.Seq.drop-cons}
 
 -- the row at the place that was found has this target already
 pub keeps_there : (rows slice : List Row) (state : State) (id at : ℕ) (aim : Aim) (row : Row) → slice ≡ rows → state.rows ≡ rows

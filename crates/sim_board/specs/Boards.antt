@@ -1,11 +1,9 @@
 -- What becomes of a board that begins or goes on: the facts of each call by name. A clause passes ⟦<dyn System as System>⟧ for `sys`.
+use Rattle.sim_base.specs.{Changes.applied, Changes.applied_all, declared.change.Change.Change, declared.state.State.State}
+use Rattle.sim_board.specs.{BoardWords.AreKept, BoardWords.is_whole, BoardWords.IsWholeBy, BoardWords.setup_in, BoardWords.state_in, ChangeKinds.KeepsTarget}
+use Rattle.{sim_board.specs.ChangeKinds.NeedsNoMemory, sim_board.specs.declared.board.Board.Board, sim_system.specs.Meanings.AreBuiltOnce}
+use Rattle.sim_system.specs.{Meanings.AreBuiltOnceAtMost, Meanings.HaveKinds, Meanings.Meaning, RigWords.systems_by, declared.system.System.Ghosts}
 use Rattle.std.specs.Prelude.{◌≡◌, false, IsOk, List, OnErr, OnOk, Result}
-use Rattle.sim_base.specs.{Changes.applied, Changes.applied_all}
-use Rattle.sim_base.specs.declared.{change.Change.Change, state.State.State}
-use Rattle.sim_board.specs.BoardWords.{AreKept, is_whole, IsWholeBy, setup_in, state_in}
-use Rattle.sim_board.specs.{ChangeKinds.KeepsTarget, ChangeKinds.NeedsNoMemory, declared.board.Board.Board}
-use Rattle.sim_system.specs.Meanings.{AreBuiltOnce, AreBuiltOnceAtMost, HaveKinds, Meaning}
-use Rattle.sim_system.specs.{RigWords.systems_by, declared.system.System.Ghosts}
 
 -- Its systems were built once, and it is whole and has come to this state; without memory it is not whole. However it ends, the systems are
 -- in their places, each was built once at most, and its match is the same.

@@ -1,11 +1,10 @@
 -- What a step of a board asks, and what becomes of the board: the facts of each call by name. A clause passes
 -- ⟦<dyn System as System>⟧ for `sys`.
-use Rattle.std.specs.Prelude.{◌≡◌, IsOk, OnOk, Result}
-use Rattle.sim_base.specs.{Changes.applied, declared.change.Change.Change}
-use Rattle.sim_board.specs.{BoardWords.AreKept, BoardWords.is_whole, BoardWords.setup_in, BoardWords.state_in, declared.board.Board.Board}
-use Rattle.sim_board.specs.ChangeKinds.{KeepsTarget, NeedsNoMemory}
-use Rattle.{sim_plans.specs.Fits.Fits, sim_plans.specs.SceneWords.IsStanding}
+use Rattle.{sim_base.specs.Changes.applied, sim_base.specs.declared.change.Change.Change, sim_board.specs.BoardWords.AreKept}
+use Rattle.sim_board.specs.{BoardWords.is_whole, BoardWords.setup_in, BoardWords.state_in, ChangeKinds.KeepsTarget, ChangeKinds.NeedsNoMemory}
+use Rattle.{sim_board.specs.declared.board.Board.Board, sim_plans.specs.Fits.Fits, sim_plans.specs.SceneWords.IsStanding}
 use Rattle.sim_system.specs.{Meanings.AreFed, Meanings.Meaning, RigWords.systems_by, declared.system.System.Ghosts}
+use Rattle.std.specs.Prelude.{◌≡◌, IsOk, OnOk, Result}
 
 -- the systems may be told of a change: the scene stands, and the change fits
 pub record MayTellBy {X : Type 0} {F : X → Type 0} (board : Board X F) (change : Change) (meaning : (i : X) → F i → Meaning) : Type 0 where

@@ -1,11 +1,10 @@
 //! The calls of a board.
 
-ghost use Rattle.{sim_board.specs.Leading.LeadsOn, sim_plans.specs.SceneWords.Stands, sim_system.specs.Meanings.HaveKinds};
-ghost use Rattle.std.specs.Prelude.{◌≡◌, ◌≤◌, false, [], length, drop};
 ghost use Rattle.sim_base.specs.{Limits.IsSetup, Turn.first_state as first_state_of, Validity.IsValid};
-ghost use Rattle.sim_board.specs.Boards.{Begins, Makes};
 ghost use Rattle.sim_board.specs.BoardWords.{is_whole, IsWhole, rig_in, setup_in, state_in, systems};
-ghost use Rattle.sim_plans.specs.Fits.{AllFit, Fits};
+ghost use Rattle.sim_board.specs.{Boards.Begins, Boards.Makes, Leading.LeadsOn};
+ghost use Rattle.{sim_plans.specs.Fits.AllFit, sim_plans.specs.Fits.Fits, sim_plans.specs.SceneWords.Stands, sim_system.specs.Meanings.HaveKinds};
+ghost use Rattle.std.specs.Prelude.{[], ◌≡◌, ◌≤◌, drop, false, length};
 
 use crate::build::build;
 use crate::first::first_state;

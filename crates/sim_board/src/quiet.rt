@@ -1,10 +1,9 @@
 //! Aims by which rows keep their targets: a fighter waits, or has hit. No system is told of them, and a phase has one for each
 //! fighter, so the rows are taken out of the state once for all of them.
 
-ghost use Rattle.sim_board.specs.Leading.{AreAroundKept, LeadsOn};
-ghost use Rattle.{sim_plans.specs.Fits.AllFit, std.specs.List.Sorted.IsStrictlyIncreasing};
-ghost use Rattle.sim_base.specs.{Limits.IsSetup, Rows.id_of, Validity.IsLooselyValid};
-ghost use Rattle.std.specs.Prelude.{◌≡◌, ◌≤◌, map, length, drop, IfSome, IfNone};
+ghost use Rattle.{sim_base.specs.Limits.IsSetup, sim_base.specs.Rows.id_of, sim_base.specs.Validity.IsLooselyValid, sim_board.specs.Leading.AreAroundKept};
+ghost use Rattle.{sim_board.specs.Leading.LeadsOn, sim_plans.specs.Fits.AllFit, std.specs.List.Sorted.IsStrictlyIncreasing};
+ghost use Rattle.std.specs.Prelude.{◌≡◌, ◌≤◌, drop, IfNone, IfSome, length, map};
 
 use crate::change::take_rows;
 use crate::near::place_near;

@@ -1,12 +1,11 @@
 //! The row of a motion: its length depends on the way. The way is lent by what the row is made of, a state or its bytes,
 //! so that a row is read and told without memory and is small.
 
+ghost use Rattle.sim_base.specs.{Bytes.flag_bytes, Limits.waypoint_limit, Spelling.motion_bytes, Spelling.moving_bytes, Spelling.point_bytes};
+ghost use Rattle.sim_base.specs.declared.state.Motion.TheVariants.{Going, Still};
+ghost use Rattle.sim_bytes.specs.{Reading.Reads, Reading.ReadsBy, Rows.front_at, Rows.IsShort, Rows.point_at, Rows.point_in, Rows.points_at, Telling.Tells};
 ghost use Rattle.std.specs.List.{flat_map};
-ghost use Rattle.std.specs.Prelude.{◌≡◌, ℕ, ◌+◌, ◌≤◌, ◌++◌, map, length, IfOk, OnOk};
-ghost use Rattle.sim_base.specs.{Bytes.flag_bytes, Limits.waypoint_limit, declared.state.Motion.TheVariants.Going, declared.state.Motion.TheVariants.Still};
-ghost use Rattle.sim_base.specs.Spelling.{motion_bytes, moving_bytes, point_bytes};
-ghost use Rattle.sim_bytes.specs.{Reading.Reads, Reading.ReadsBy, Telling.Tells};
-ghost use Rattle.sim_bytes.specs.Rows.{front_at, IsShort, point_at, point_in, points_at};
+ghost use Rattle.std.specs.Prelude.{◌++◌, ◌+◌, ◌≡◌, ◌≤◌, IfOk, length, map, OnOk, ℕ};
 
 use crate::form::RowForm;
 use crate::{Buffer, ByteSink, Short, Take, tell_i32, tell_u8, tell_u32};

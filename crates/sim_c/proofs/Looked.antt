@@ -1,8 +1,7 @@
 -- A look in other words holds what it held before, and where there is no state it still says so.
-use Rattle.std.proofs.Common.{◌≡◌, ap}
-use Rattle.std.specs.Prelude.{Ok, Err, IfOk, Some, None, Option, Result}
 use Rattle.sim_base.specs.declared.{memory.OutOfMemory.OutOfMemory, state.State.State}
-use Rattle.{sim_c.specs.GivesHeld.looked, sim_held.specs.Clients.LooksAt}
+use Rattle.{sim_c.specs.GivesHeld.looked, sim_held.specs.Clients.LooksAt, std.proofs.Common.◌≡◌, std.proofs.Common.ap}
+use Rattle.std.specs.Prelude.{Err, IfOk, None, Ok, Option, Result, Some}
 
 pub looked_is : {X Y : Type 0} (f : X → Y) (P : State → Y → Type 0) (state : Option State) (answer : Result (Option X) OutOfMemory)
     → IfOk answer (LooksAt state (λ at x. P at (f x))) → IfOk (looked f answer) (LooksAt state P)

@@ -1,8 +1,7 @@
 -- What a call makes of the client that a handle holds, beside what the calls of `sim_held` say.
-use Rattle.std.specs.Prelude.{◌≡◌, ℕ, List, [], length, if◌then◌else◌, nat_le}
-use Rattle.sim_c.specs.declared.standing.Standing.{Standing}
-use Rattle.sim_client.specs.Lives.{Joining, Life, Off, On}
-use Rattle.sim_held.specs.Clients.{ClientView, IsSame, life}
+use Rattle.{sim_c.specs.declared.standing.Standing.Standing, sim_client.specs.Lives.Joining, sim_client.specs.Lives.Life, sim_client.specs.Lives.Off}
+use Rattle.{sim_client.specs.Lives.On, sim_held.specs.Clients.ClientView, sim_held.specs.Clients.IsSame, sim_held.specs.Clients.life}
+use Rattle.std.specs.Prelude.{[], if◌then◌else◌, ◌≡◌, length, List, nat_le, ℕ}
 
 -- what waits is put into a room and let go, where the room is large enough
 pub record LetsGo (room : List ℕ) (old new : ClientView) : Type 0 where

@@ -1,8 +1,7 @@
 -- How what a call of something held came to is put where C wants it. What is not named is as it was.
-use Rattle.std.specs.Prelude.{◌≡◌, ℕ, List, length, ℤ, pos, if◌then◌else◌, ◌==◌, Some, None, Ok, Err, Option, Result}
-use Rattle.sim_base.specs.declared.memory.OutOfMemory.{OutOfMemory}
-use Rattle.sim_c.specs.{Gives.digest_with, Gives.put_in, Gives.room_status}
+use Rattle.{sim_base.specs.declared.memory.OutOfMemory.OutOfMemory, sim_c.specs.Gives.digest_with, sim_c.specs.Gives.put_in, sim_c.specs.Gives.room_status}
 use Rattle.sim_embed.specs.declared.stored.{Stamp.Stamp, Stored.Stored}
+use Rattle.std.specs.Prelude.{if◌then◌else◌, ◌==◌, ◌≡◌, Err, length, List, None, Ok, Option, pos, Result, Some, ℕ, ℤ}
 
 -- how many turns were played is written, if any were
 abbrev pub GivesPlayed : ℤ → ℕ → ℕ → Result ℕ OutOfMemory → Type 0

@@ -2,12 +2,9 @@
 use base.Stored.{Coded}
 use base.Fml.{Fml, feq, fex}
 use denote.RawPtr.{Ptr, null_ptr}
-use Rattle.std.specs.declared.option.Option.{Option}
-use Rattle.std.specs.declared.option.Option.TheVariants.{None, Some}
-use Rattle.std.specs.declared.alloc.Global.{Global}
-use Rattle.std.specs.contracts.impls.GlobalAllocator.TheImpl.{ghosts}
+use Rattle.{sim_held.specs.contracts.held.Held.the_row, std.specs.contracts.impls.GlobalAllocator.TheImpl.ghosts, std.specs.declared.alloc.Global.Global}
+use Rattle.std.specs.declared.option.Option.{Option, TheVariants.None, TheVariants.Some}
 use Rattle.std_alloc.specs.Box.Ownership.{box_owns}
-use Rattle.sim_held.specs.contracts.held.Held.{the_row}
 
 -- what a handle can hold
 abbrev pub Value : Type 0

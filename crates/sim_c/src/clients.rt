@@ -1,11 +1,10 @@
 //! A client that a handle holds. Each clause is that of the call of `sim_held` of the same name.
 
-ghost use Rattle.std.specs.Prelude.{◌≡◌, ◌==◌, not, pos, length, IfOk, IfErr, option_map};
-ghost use Rattle.{sim_embed.specs.Bytes.OfMatch, sim_embed.specs.Causes.IsNoMatch, sim_held.specs.Clients.IsNew, sim_held.specs.Clients.life};
-ghost use Rattle.sim_c.specs.{Gives.Answers, Gives.put_in, Gives.room_status, GivesHeld.GivesPlayed, Status.went_status};
-ghost use Rattle.sim_c.specs.Clients.{LetsGo, standing_of};
-ghost use Rattle.sim_held.specs.Calls.{HearsFrame, IsCutOff, Joins, Orders, Plays};
-ghost use Rattle.sim_c.specs.Holding.{Comes, IsClient, OfClient, Opens};
+ghost use Rattle.sim_c.specs.{Clients.LetsGo, Clients.standing_of, Gives.Answers, Gives.put_in, Gives.room_status, GivesHeld.GivesPlayed, Holding.Comes};
+ghost use Rattle.sim_c.specs.{Holding.IsClient, Holding.OfClient, Holding.Opens, Status.went_status};
+ghost use Rattle.sim_embed.specs.{Bytes.OfMatch, Causes.IsNoMatch};
+ghost use Rattle.sim_held.specs.{Calls.HearsFrame, Calls.IsCutOff, Calls.Joins, Calls.Orders, Calls.Plays, Clients.IsNew, Clients.life};
+ghost use Rattle.std.specs.Prelude.{◌==◌, ◌≡◌, IfErr, IfOk, length, not, option_map, pos};
 
 use crate::Fault;
 use crate::giving::fill;

@@ -1,11 +1,10 @@
 //! A match that a handle holds. Each clause is that of the call of `sim_held` of the same name.
 
-ghost use Rattle.std.specs.Prelude.{◌≡◌, pos, IfOk, IfErr, option_map};
 ghost use Rattle.sim_base.specs.Turn.{first_state};
+ghost use Rattle.sim_c.specs.{Gives.Answers, Gives.GivesValue, GivesHeld.GivesPlayed, Holding.Comes, Holding.IsGame, Holding.OfGame, Holding.Opens};
 ghost use Rattle.sim_embed.specs.{Bytes.OfMatch, Bytes.OfState, Causes.IsNoMatch, Causes.IsNoStateOf};
-ghost use Rattle.sim_c.specs.{Gives.Answers, Gives.GivesValue, GivesHeld.GivesPlayed};
 ghost use Rattle.sim_held.specs.Games.{PlaysGame, PlaysOwnTurns};
-ghost use Rattle.sim_c.specs.Holding.{Comes, IsGame, OfGame, Opens};
+ghost use Rattle.std.specs.Prelude.{◌≡◌, IfErr, IfOk, option_map, pos};
 
 use crate::Fault;
 use crate::giving_held::give_played;

@@ -1,12 +1,11 @@
 -- A valid state has no more bytes than any may have: 75, and 573 for each row.
-use Rattle.sim_client.proofs.SpellingWords.{All-head, All-tail, arith, attack_bytes, attack_part, clock_bytes, cons_option, entity_bytes, entity_part, flag_bytes}
-use Rattle.sim_client.proofs.SpellingWords.{HasShortWay, health_bytes, health_part, i32_bytes, IsSetup, IsShort, IsShortState, IsValid, length-append}
-use Rattle.sim_client.proofs.SpellingWords.{length-i32_bytes, length-moving_bytes, length-u16_bytes, length-u32_bytes, length-u64_bytes, Motion, motion_part}
-use Rattle.sim_client.proofs.SpellingWords.{moving_bytes, owner_bytes, owner_part, point_bytes, position_bytes, position_part, Row, rows_with, section}
-use Rattle.sim_client.proofs.SpellingWords.{sections, Setup, short_ways, spelling, stance_bytes, stance_part, State, suc-mul, u16_bytes, u32_bytes, u64_bytes}
-use Rattle.sim_client.proofs.SpellingWords.{version}
-use Rattle.sim_client.proofs.SpellingWords.{◌≡◌, ℕ, suc, ◌+◌, ◌*◌, ◌≤◌, List, [], ◌∷◌, ◌++◌, length, IfSome, Some, None, codes, All, flat_map, Option, option_map}
-use Rattle.sim_wire.proofs.Lengths.{length_of_point}
+use Rattle.sim_client.proofs.SpellingWords.{[], ◌*◌, ◌++◌, ◌+◌, ◌∷◌, ◌≡◌, ◌≤◌, All, All-head, All-tail, arith, attack_bytes, attack_part, clock_bytes, codes}
+use Rattle.sim_client.proofs.SpellingWords.{cons_option, entity_bytes, entity_part, flag_bytes, flat_map, HasShortWay, health_bytes, health_part, i32_bytes}
+use Rattle.sim_client.proofs.SpellingWords.{IfSome, IsSetup, IsShort, IsShortState, IsValid, length, length-append, length-i32_bytes, length-moving_bytes}
+use Rattle.sim_client.proofs.SpellingWords.{length-u16_bytes, length-u32_bytes, length-u64_bytes, List, Motion, motion_part, moving_bytes, None, Option}
+use Rattle.sim_client.proofs.SpellingWords.{option_map, owner_bytes, owner_part, point_bytes, position_bytes, position_part, Row, rows_with, section, sections}
+use Rattle.sim_client.proofs.SpellingWords.{Setup, short_ways, Some, spelling, stance_bytes, stance_part, State, suc, suc-mul, u16_bytes, u32_bytes, u64_bytes}
+use Rattle.{sim_client.proofs.SpellingWords.version, sim_client.proofs.SpellingWords.ℕ, sim_wire.proofs.Lengths.length_of_point}
 
 -- the rows of a section, each of at most so many bytes
 rows_few : {X : Type 0} (most : ℕ) (spelled : ℕ × X → List ℕ) (part : Row → Option X) (rows : List Row)

@@ -1,10 +1,9 @@
 -- A client that is sound, before and after a step.
-use Rattle.{sim_base.specs.declared.memory.OutOfMemory.OutOfMemory, std.proofs.Common.Ok, std.proofs.Common.Err, std.proofs.Common.Result}
-use Rattle.{sim_client.proofs.Common.sym, sim_client.specs.declared.did.Did.Did, sim_client.specs.declared.stage.Seat.Seat, sim_system.specs.Meanings.Meaning}
-use Rattle.sim_board.specs.declared.board.Board.{Board}
-use Rattle.sim_client.proofs.Common.{AreByPlayers, Command, IsOrderOf, IsReady, Known, known_in, Life, On, orders, PlayerCommand, Setup, Stage, State, subst}
-use Rattle.sim_client.proofs.Common.{◌≡◌, ℕ, Bool, true, false, ◌&&◌, List, [], if◌then◌else◌, OnOk, nat_lt, Some, None, All, Option, refl, Act, All-nil}
-use Rattle.sim_client.specs.{ClientWords.Answers, StageWords.IsPlayingBy, StageWords.IsSoundAt, StageWords.life_at, StageWords.player_at}
+use Rattle.{sim_base.specs.declared.memory.OutOfMemory.OutOfMemory, sim_board.specs.declared.board.Board.Board}
+use Rattle.sim_client.proofs.Common.{[], if◌then◌else◌, ◌&&◌, ◌≡◌, Act, All, All-nil, AreByPlayers, Bool, Command, false, IsOrderOf, IsReady, Known, known_in}
+use Rattle.sim_client.proofs.Common.{Life, List, nat_lt, None, On, OnOk, Option, orders, PlayerCommand, refl, Setup, Some, Stage, State, subst, sym, true, ℕ}
+use Rattle.sim_client.specs.{ClientWords.Answers, StageWords.IsPlayingBy, StageWords.IsSoundAt, StageWords.life_at, StageWords.player_at, declared.did.Did.Did}
+use Rattle.{sim_client.specs.declared.stage.Seat.Seat, sim_system.specs.Meanings.Meaning, std.proofs.Common.Err, std.proofs.Common.Ok, std.proofs.Common.Result}
 use Rattle.sim_client.specs.declared.stage.Stage.TheVariants as stage
 
 -- what holds anyway holds where a result is Ok

@@ -1,13 +1,12 @@
 -- What a client is to its callers. A clause passes ⟦<dyn System as System>⟧ for `sys`.
-use Rattle.{sim_board.specs.BoardWords.AreKept, sim_codec.specs.Loading.StandsFor, sim_system.specs.declared.system.System.Ghosts}
-use Rattle.std.specs.Prelude.{◌≡◌, ℕ, Bool, true, false, List, IsOk, OnOk, Some, None, Ok, Err, Option, Result}
 use Rattle.sim_base.specs.{Spelling.digest, Spelling.mark, declared.memory.OutOfMemory.OutOfMemory, declared.setup.Setup.Setup, declared.state.State.State}
-use Rattle.sim_client.specs.{Lives.Act, Lives.hears, Lives.Joining, Lives.Life, Lives.may_play, Lives.Off, Lives.On, Lives.plays, Lives.Told}
-use Rattle.sim_client.specs.declared.{client.Client.Client, stage.Seat.Seat}
-use Rattle.sim_client.specs.declared.did.{Did.Did, Played.Played}
+use Rattle.sim_board.specs.{BoardWords.AreKept, declared.board.Board.Board}
+use Rattle.sim_client.specs.Lives.{Act, hears, Joining, Life, may_play, Off, On, plays, Told}
 use Rattle.sim_client.specs.StageWords.{IsPlayingBy, IsSoundAt, life_at, player_at, systems_on}
-use Rattle.{sim_board.specs.declared.board.Board.Board, sim_system.specs.RigWords.systems_by}
-use Rattle.sim_system.specs.Meanings.{AreBuiltOnceAtMost, HaveKinds, Meaning, Systems}
+use Rattle.sim_client.specs.declared.{client.Client.Client, did.Did.Did, did.Played.Played, stage.Seat.Seat}
+use Rattle.{sim_codec.specs.Loading.StandsFor, sim_system.specs.Meanings.AreBuiltOnceAtMost}
+use Rattle.sim_system.specs.{Meanings.HaveKinds, Meanings.Meaning, Meanings.Systems, RigWords.systems_by, declared.system.System.Ghosts}
+use Rattle.std.specs.Prelude.{◌≡◌, Bool, Err, false, IsOk, List, None, Ok, OnOk, Option, Result, Some, true, ℕ}
 use Rattle.sim_client.specs.declared.did.Did.TheVariants as did
 use Rattle.sim_plain.specs.declared.message.DownOf.TheVariants as down
 

@@ -1,11 +1,10 @@
 -- What a client keeps beside its board, and what it is with that board. Members of systems are passed as in the words of boards.
-use Rattle.{sim_plain_session.specs.Players.Player, sim_system.specs.declared.kind.Kind.TheVariants.Ground, sim_system.specs.declared.system.System.Ghosts}
-use Rattle.std.specs.Prelude.{◌≡◌, ℕ, [], Some, None, Option}
 use Rattle.sim_base.specs.{Limits.IsFrom, Limits.IsSetup, Validity.IsValid, declared.setup.Setup.Setup, declared.state.State.State}
-use Rattle.sim_board.specs.{BoardWords.IsWholeBy, declared.board.Board.Board}
-use Rattle.sim_client.specs.{Lives.Joining, Lives.Life, Lives.Off, Lives.On, declared.stage.Seat.Seat, declared.stage.Stage.Stage}
-use Rattle.sim_client.specs.KnownWords.{AreByPlayers, known_in}
-use Rattle.sim_system.specs.{Meanings.AreFed, Meanings.four, Meanings.HaveKinds, Meanings.Meaning, Meanings.Systems, RigWords.systems_by}
+use Rattle.{sim_board.specs.BoardWords.IsWholeBy, sim_board.specs.declared.board.Board.Board, sim_client.specs.KnownWords.AreByPlayers}
+use Rattle.sim_client.specs.{KnownWords.known_in, Lives.Joining, Lives.Life, Lives.Off, Lives.On, declared.stage.Seat.Seat, declared.stage.Stage.Stage}
+use Rattle.{sim_plain_session.specs.Players.Player, sim_system.specs.Meanings.AreFed, sim_system.specs.Meanings.four, sim_system.specs.Meanings.HaveKinds}
+use Rattle.sim_system.specs.{Meanings.Meaning, Meanings.Systems, RigWords.systems_by, declared.kind.Kind.TheVariants.Ground, declared.system.System.Ghosts}
+use Rattle.std.specs.Prelude.{[], ◌≡◌, None, Option, Some, ℕ}
 use Rattle.sim_client.specs.declared.stage.Stage.TheVariants as stage
 
 -- a seat beside a state

@@ -3,13 +3,12 @@
 //! Its systems are always on a board. A client that is not on has one that is not whole, and its systems are cleared. The
 //! board is taken out only to be made anew, as the client is cut off.
 
-ghost use Rattle.{sim_base.specs.Limits.HasFewIds, sim_base.specs.Limits.IsFrom, sim_base.specs.Limits.IsSetup};
-ghost use Rattle.std.specs.Prelude.{◌≡◌, min, IfOk, option_copied};
-ghost use Rattle.sim_client.specs.ClientWords.{Begins, did_in, digest_of, HasDigest, is_joining, IsSound, Keeps, life, mark_of};
-ghost use Rattle.sim_client.specs.ClientWords.{number_in, setup_in, state_of, Steps, systems, Tells, turn_of};
-ghost use Rattle.sim_client.specs.Lives.{bends, joins, Off, orders as orders_by, plays, starts};
-ghost use Rattle.sim_client.specs.StageWords.{AreCleared, AreOf};
+ghost use Rattle.sim_base.specs.Limits.{HasFewIds, IsFrom, IsSetup};
+ghost use Rattle.sim_client.specs.ClientWords.{Begins, did_in, digest_of, HasDigest, is_joining, IsSound, Keeps, life, mark_of, number_in, setup_in, state_of};
+ghost use Rattle.sim_client.specs.{ClientWords.Steps, ClientWords.systems, ClientWords.Tells, ClientWords.turn_of, Lives.bends, Lives.joins, Lives.Off};
+ghost use Rattle.sim_client.specs.{Lives.orders as orders_by, Lives.plays, Lives.starts, StageWords.AreCleared, StageWords.AreOf};
 ghost use Rattle.sim_system.specs.{Meanings.all_cleared, Meanings.HaveKinds, RigWords.systems_of};
+ghost use Rattle.std.specs.Prelude.{◌≡◌, IfOk, min, option_copied};
 
 mod hearing;
 

@@ -1,10 +1,9 @@
 //! The test of a state that still stands in its bytes: what `validity` asks of one in memory. The ids are seen to ascend
 //! first, so that each target is then found by halves.
 
-ghost use Rattle.std.specs.Prelude.{◌≡◌, ◌+◌, ◌<◌, ◌≤◌, ◌↔◌, ◌++◌, map, length, IsTrue, All, option_map};
-ghost use Rattle.sim_codec.specs.Common.{Both, id_of, IsInside, IsKnownRow, IsStrictlyIncreasing, IsValid, IsValidAim, IsValidMotion, IsValidRow};
-ghost use Rattle.sim_codec.specs.Common.{point_in, row_of};
-ghost use Rattle.sim_codec.specs.Stored.{AreGood};
+ghost use Rattle.sim_codec.specs.Common.{Both, id_of, IsInside, IsKnownRow, IsStrictlyIncreasing, IsValid, IsValidAim, IsValidMotion, IsValidRow, point_in};
+ghost use Rattle.sim_codec.specs.{Common.row_of, Stored.AreGood};
+ghost use Rattle.std.specs.Prelude.{◌++◌, ◌+◌, ◌<◌, ◌↔◌, ◌≡◌, ◌≤◌, All, IsTrue, length, map, option_map};
 
 use crate::stored::{Stored, StoredRows};
 use crate::validity::{

@@ -1,12 +1,10 @@
 //! The top call of talks: from the words to how it ended. The match is read before anything is told.
 
-ghost use Rattle.{sim_base.specs.Limits.IsSetup, sim_system.specs.Meanings.HaveKinds, sim_system.specs.RigWords.systems_of};
-ghost use Rattle.sim_client.specs.StageWords.{AreCleared};
-ghost use Rattle.sim_top.specs.Stops.{CausesOf, status_of, stop_text as text_of_stop};
-ghost use Rattle.std.specs.Prelude.{◌≡◌, ◌≤◌, [], length, IfSome, IfOk, vec_capacity, All};
-ghost use Rattle.sim_talk.specs.Talks.{Tells};
-ghost use Rattle.sim_edge.specs.{Endings.ended_as, Words.talk_of};
+ghost use Rattle.{sim_base.specs.Limits.IsSetup, sim_client.specs.StageWords.AreCleared, sim_edge.specs.Endings.ended_as};
 ghost use Rattle.sim_edge.specs.Talked.{IsRefusal, IsTalk, OfRelay, ReadsFor, Refused, ShelfCauses, TalkCauses, TalkedOver, TalksOf};
+ghost use Rattle.{sim_edge.specs.Words.talk_of, sim_system.specs.Meanings.HaveKinds, sim_system.specs.RigWords.systems_of, sim_talk.specs.Talks.Tells};
+ghost use Rattle.sim_top.specs.Stops.{CausesOf, status_of, stop_text as text_of_stop};
+ghost use Rattle.std.specs.Prelude.{[], ◌≡◌, ◌≤◌, All, IfOk, IfSome, length, vec_capacity};
 
 use crate::asking::Asked;
 use crate::ending::Ending;

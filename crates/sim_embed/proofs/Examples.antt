@@ -1,9 +1,8 @@
 -- Worked examples of commands, computed from the definitions.
 use Rattle.serde_json.specs.Data.{array, Data, item, no_items, number, string, unsigned}
-use Rattle.std.proofs.Common.{◌≡◌, ℕ, [], ◌∷◌, Ok, Err, refl}
-use Rattle.std.specs.Prelude.{codes}
 use Rattle.sim_base.specs.declared.command.{Command.TheVariants.Stop, PlayerCommand.PlayerCommand}
-use Rattle.{sim_embed.specs.Orders.order_of, sim_embed.specs.Orders.orders_from, sim_json.specs.Commands.command_of}
+use Rattle.{sim_embed.specs.Orders.order_of, sim_embed.specs.Orders.orders_from, sim_json.specs.Commands.command_of, std.proofs.Common.[]}
+use Rattle.std.{proofs.Common.◌∷◌, proofs.Common.◌≡◌, proofs.Common.Err, proofs.Common.Ok, proofs.Common.refl, proofs.Common.ℕ, specs.Prelude.codes}
 
 -- [PLAYER,"stop",[7]]
 abbrev stop : ℕ → Data

@@ -1,13 +1,12 @@
 -- Why a call has no answer. The causes come in the order in which the bytes are handed in; want of memory may come before each of them,
 -- but for bytes of a match that are no text, since that is found without any.
-use Rattle.std.specs.Prelude.{◌≡◌, ◌≢◌, ℕ, ◌<◌, ◌≤◌, true, ◌⊎◌, List, Err}
-use Rattle.std.specs.Str.{is_utf8}
-use Rattle.sim_base.specs.declared.setup.Setup.{Setup}
-use Rattle.sim_codec.specs.{Loading.RefusedFor, Loading.Stands, declared.fault.StateFault.StateFault}
-use Rattle.sim_codec.specs.declared.fault.StateFault.TheVariants.{OutOfMemory as no_memory}
+use Rattle.{sim_base.specs.declared.setup.Setup.Setup, sim_codec.specs.Loading.RefusedFor, sim_codec.specs.Loading.Stands}
+use Rattle.sim_codec.specs.declared.fault.StateFault.{StateFault, TheVariants.OutOfMemory as no_memory}
 use Rattle.sim_embed.specs.{Bytes.OfMatch, Bytes.OfState, Orders.orders_of, declared.refused.Refused.Refused}
 use Rattle.sim_embed.specs.declared.refused.Refused.TheVariants.{Commands, Match, OutOfMemory, Over, State}
 use Rattle.sim_setup.specs.{Refusals.refusal, Setups.setup_of}
+use Rattle.std.specs.Prelude.{◌<◌, ◌≡◌, ◌≢◌, ◌≤◌, ◌⊎◌, Err, List, true, ℕ}
+use Rattle.std.specs.Str.{is_utf8}
 
 -- the bytes stand for no state of the match, for this cause, which is no want of memory
 pub record StandForNone (setup : Setup) (bytes : List ℕ) (fault : StateFault) : Type 0 where

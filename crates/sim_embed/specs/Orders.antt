@@ -1,11 +1,10 @@
 -- The commands that bytes spell: a list in JSON of which each item has a player, the kind and what follows it.
-use Rattle.std.specs.Prelude.{◌≡◌, ℕ, ◌+◌, List, [], ◌∷◌, Some, None, Ok, Err, Option, Result, Vec, option_and_then}
-use Rattle.std.specs.declared.alloc.Global.{Global}
-use Rattle.sim_base.specs.{Limits.IsFrom, declared.command.PlayerCommand.PlayerCommand}
-use Rattle.{serde_json.specs.Data.Data, sim_json.specs.Commands.command_of}
+use Rattle.{serde_json.specs.Data.Data, sim_base.specs.Limits.IsFrom, sim_base.specs.declared.command.PlayerCommand.PlayerCommand}
 use Rattle.sim_embed.specs.declared.refused.Refused.{Refused}
 use Rattle.sim_embed.specs.declared.refused.Refused.TheVariants.{Commands, Match, OutOfMemory, Over, State}
-use Rattle.sim_json.specs.{Records.next_or, Records.numbered, Values.list_of, Values.natural_in, Values.value_of}
+use Rattle.sim_json.specs.{Commands.command_of, Records.next_or, Records.numbered, Values.list_of, Values.natural_in, Values.value_of}
+use Rattle.std.specs.Prelude.{[], ◌+◌, ◌∷◌, ◌≡◌, Err, List, None, Ok, Option, option_and_then, Result, Some, Vec, ℕ}
+use Rattle.std.specs.declared.alloc.Global.{Global}
 
 -- a command is given by one of so many players
 abbrev pub IsOrderFor : ℕ → PlayerCommand → Type 0

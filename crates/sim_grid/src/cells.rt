@@ -1,10 +1,9 @@
 //! Which cells of a ground are open: one truth value for each, row by row. It stands below the grid, which keeps beside
 //! it what steps they leave.
 
-ghost use Rattle.std.specs.Prelude.{◌≡◌, ◌*◌, ◌<◌, ◌≤◌, true, ◌≢◌, ◌↔◌, replicate, pos, ◌+ℤ◌, ◌≤ℤ◌, IfOk, IsTrue, slice_get, slice_set, Some, None};
-ghost use Rattle.sim_base.specs.Steps.{cell_at as cell_of_numbers, IsOnGround, neighbour as neighbour_of, offsets};
-ghost use Rattle.sim_base.specs.declared.place.Cell.{Cell};
+ghost use Rattle.sim_base.specs.{Steps.cell_at as cell_of_numbers, Steps.IsOnGround, Steps.neighbour as neighbour_of, Steps.offsets, declared.place.Cell.Cell};
 ghost use Rattle.sim_grid.specs.{Grids.is_open_at, Grids.IsGrid, Grids.IsOneOff, Grids.place_of, Spots.IsSpot};
+ghost use Rattle.std.specs.Prelude.{◌*◌, ◌+ℤ◌, ◌<◌, ◌↔◌, ◌≡◌, ◌≢◌, ◌≤ℤ◌, ◌≤◌, IfOk, IsTrue, None, pos, replicate, slice_get, slice_set, Some, true};
 
 use crate::spot::Spot;
 use sim_base::{Cell, OutOfMemory};

@@ -1,10 +1,8 @@
 -- What may be mended: the labels of a grid are those of the cells with labels, and these are the cells that were open.
-use Rattle.sim_ground.proofs.Common.{◌≡◌, ℕ, ◌+◌, Bool, true, false, not, ◌&&◌, List, is_some, Some, None, Option, refl, ap, ◌==◌, arith, nat_tests}
-use Rattle.sim_ground.proofs.Common.{AreLabels, AreOpenWhereNone, Cell, field_of_grid, from-open, is_open_at, IsOnGround, layers_at, LayersTurn, one_if, OpenCells}
-use Rattle.sim_ground.proofs.Common.{Size, subst, sym, ◌∙◌}
-use Rattle.sim_ground.proofs.{Regions.labels_over, Relabelling.labels_again}
-use Rattle.sim_ground.specs.Mended.{AreTurned, Closes}
-use Rattle.sim_search.specs.Mending.{labelled}
+use Rattle.sim_ground.proofs.Common.{◌&&◌, ◌+◌, ◌==◌, ◌∙◌, ◌≡◌, ap, AreLabels, AreOpenWhereNone, arith, Bool, Cell, false, field_of_grid, from-open, is_open_at}
+use Rattle.sim_ground.proofs.Common.{is_some, IsOnGround, layers_at, LayersTurn, List, nat_tests, None, not, one_if, OpenCells, Option, refl, Size, Some, subst}
+use Rattle.sim_ground.proofs.{Common.sym, Common.true, Common.ℕ, Regions.labels_over, Relabelling.labels_again}
+use Rattle.{sim_ground.specs.Mended.AreTurned, sim_ground.specs.Mended.Closes, sim_search.specs.Mending.labelled}
 
 -- a cell is open just where it has a label
 open_with_label : (g : OpenCells) (label : Cell → Option ℕ) → AreLabels (field_of_grid g) label → (c : Cell) → IsOnGround g.size c

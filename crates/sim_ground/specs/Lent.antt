@@ -1,8 +1,7 @@
 -- What a ground lends of what it keeps.
-use Rattle.{sim_base.specs.declared.setup.Land.Land, sim_system.specs.Answers.field_among, sim_system.specs.declared.fact.Fact.Fact}
-use Rattle.std.specs.Prelude.{◌≡◌, ℕ, ◌*◌, List, [], length, IsNone, MatchOption, Some, None, Option}
-use Rattle.sim_ground.specs.Layers.{AreLayersOf}
-use Rattle.sim_search.specs.{Floods.label_in, Regions.AreLabels, declared.labels.Labels.Labels}
+use Rattle.{sim_base.specs.declared.setup.Land.Land, sim_ground.specs.Layers.AreLayersOf, sim_search.specs.Floods.label_in, sim_search.specs.Regions.AreLabels}
+use Rattle.{sim_search.specs.declared.labels.Labels.Labels, sim_system.specs.Answers.field_among, sim_system.specs.declared.fact.Fact.Fact}
+use Rattle.std.specs.Prelude.{[], ◌*◌, ◌≡◌, IsNone, length, List, MatchOption, None, Option, Some, ℕ}
 
 -- the labels of the cells that are open among the facts, just where there is a land
 abbrev pub AreRegions : Option Land → List Fact → Option Labels → Type 0

@@ -1,11 +1,10 @@
 //! The labels of the open cells where a rectangle came or went: those of its cells alone are changed, if that is enough.
 
-ghost use Rattle.std.specs.Prelude.{◌≡◌, ◌<◌, ◌≤◌, false, true, [], is_some, IfOk, OnOk};
 ghost use Rattle.sim_base.specs.{Filters.rect_covers, Places.covers, Places.same_cell, Steps.IsOnGround};
-ghost use Rattle.{sim_grid.specs.Grids.field_of_grid, sim_grid.specs.Grids.is_open_at, sim_search.specs.Floods.label_in, sim_search.specs.Mending.labelled};
-ghost use Rattle.sim_ground.specs.{Closing.in_row, Closing.in_rows, Layers.part_covers, Mended.AddsTurned, Mended.AreTurned, Mended.Closes};
-ghost use Rattle.sim_ground.specs.{Mended.is_turned as was_turned};
-ghost use Rattle.sim_search.specs.Regions.{AreLabels};
+ghost use Rattle.{sim_grid.specs.Grids.field_of_grid, sim_grid.specs.Grids.is_open_at, sim_ground.specs.Closing.in_row};
+ghost use Rattle.sim_ground.specs.{Closing.in_rows, Layers.part_covers, Mended.AddsTurned, Mended.AreTurned, Mended.Closes, Mended.is_turned as was_turned};
+ghost use Rattle.sim_search.specs.{Floods.label_in, Mending.labelled, Regions.AreLabels};
+ghost use Rattle.std.specs.Prelude.{[], ◌<◌, ◌≡◌, ◌≤◌, false, IfOk, is_some, OnOk, true};
 
 use crate::span::span;
 use sim_base::{Cell, OutOfMemory, Rect};

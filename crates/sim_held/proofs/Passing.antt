@@ -1,13 +1,10 @@
 -- What a client hears without memory.
-use Rattle.sim_base.specs.declared.setup.Setup.{Setup}
-use Rattle.sim_client.specs.{ClientWords.Answers, ClientWords.NeedsNoMemory, declared.did.Did.Did, declared.did.Did.TheVariants.Done, declared.did.Did.TheVariants.Idle}
-use Rattle.sim_client.specs.LifeLaws.{says_of}
-use Rattle.{sim_client.specs.Lives.Told, sim_held.specs.Acting.said_by, sim_held.specs.Hearing.brings_state}
-use Rattle.sim_held.proofs.Common.{◌≡◌, ℕ, ◌<◌, Bool, true, false, List, [], length, Some, None, Ok, Option, if◌then◌else◌, refl, arith, subst, sym, ◌∙◌}
-use Rattle.sim_held.proofs.Common.{Act, hears, Life, On}
-use Rattle.{sim_plain_session.specs.Players.Player, sim_wire.specs.Fits.IsDownFrame, sim_wire.specs.Frames.down_frame}
-use Rattle.std.specs.Prelude.{nat_eq, nat_lt, slice_index_or}
-use Rattle.sim_base.specs.Bytes.{u32_bytes}
+use Rattle.{sim_base.specs.Bytes.u32_bytes, sim_base.specs.declared.setup.Setup.Setup, sim_client.specs.ClientWords.Answers}
+use Rattle.sim_client.specs.{ClientWords.NeedsNoMemory, LifeLaws.says_of, Lives.Told, declared.did.Did.Did, declared.did.Did.TheVariants.Done}
+use Rattle.{sim_client.specs.declared.did.Did.TheVariants.Idle, sim_held.proofs.Common.[], sim_held.proofs.Common.if◌then◌else◌}
+use Rattle.sim_held.proofs.Common.{◌<◌, ◌∙◌, ◌≡◌, Act, arith, Bool, false, hears, length, Life, List, None, Ok, On, Option, refl, Some, subst, sym, true, ℕ}
+use Rattle.{sim_held.specs.Acting.said_by, sim_held.specs.Hearing.brings_state, sim_plain_session.specs.Players.Player, sim_wire.specs.Fits.IsDownFrame}
+use Rattle.{sim_wire.specs.Frames.down_frame, std.specs.Prelude.nat_eq, std.specs.Prelude.nat_lt, std.specs.Prelude.slice_index_or}
 use Rattle.sim_plain.specs.declared.message.DownOf.TheVariants as down
 
 -- ---- the tag of a frame

@@ -1,14 +1,12 @@
 -- What a server that is held comes to, in the words of its callers.
-use Rattle.{sim_base.specs.declared.memory.OutOfMemory.OutOfMemory, sim_server.specs.Small.IsSmallArrival, sim_server.specs.Standing.Makes}
-use Rattle.sim_pipes.proofs.{Answering.makes_rules, Answering.makes_small, Telling.clients_are_told, Telling.told_each}
-use Rattle.sim_plain.specs.{Messages.Arrival, Messages.Cut, Posts.posts, Posts.posts_of}
-use Rattle.sim_plain.specs.declared.rules.Rules.{Rules}
-use Rattle.sim_held.proofs.Common.{◌≡◌, ℕ, ◌<◌, ◌≤◌, Bool, true, false, List, [], ◌∷◌, ◌++◌, Ok, Result, if◌then◌else◌, All, All-head, All-tail, ap, arith}
-use Rattle.sim_held.proofs.Common.{cond-false, DownOf, ne_eqb, PostOf, refl, subst, sym, told_to, ◌∙◌}
+use Rattle.sim_base.specs.declared.memory.OutOfMemory.{OutOfMemory}
+use Rattle.sim_held.proofs.Common.{[], if◌then◌else◌, ◌++◌, ◌<◌, ◌∙◌, ◌∷◌, ◌≡◌, ◌≤◌, All, All-head, All-tail, ap, arith, Bool, cond-false, DownOf, false, List}
+use Rattle.sim_held.proofs.Common.{ne_eqb, Ok, PostOf, refl, Result, subst, sym, told_to, true, ℕ}
 use Rattle.sim_held.specs.Servers.{AreSmall, CutsOff, Hears, is_client, IsReady, waiting, WaitsForClients}
-use Rattle.std.specs.Prelude.{◌&&◌, nat_le, nat_lt}
-use Rattle.sim_server.specs.Standing.{server_of, View}
-use Rattle.std.proofs.Common.{◌==◌}
+use Rattle.sim_pipes.proofs.{Answering.makes_rules, Answering.makes_small, Telling.clients_are_told, Telling.told_each}
+use Rattle.sim_plain.specs.{Messages.Arrival, Messages.Cut, Posts.posts, Posts.posts_of, declared.rules.Rules.Rules}
+use Rattle.sim_server.specs.{Small.IsSmallArrival, Standing.Makes, Standing.server_of, Standing.View}
+use Rattle.std.{proofs.Common.◌==◌, specs.Prelude.◌&&◌, specs.Prelude.nat_le, specs.Prelude.nat_lt}
 
 abbrev Bytes : Type 0
 Bytes = List ℕ

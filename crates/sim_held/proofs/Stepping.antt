@@ -1,9 +1,7 @@
 -- What a step of a client comes to, in the words of its callers.
 use Rattle.sim_base.specs.declared.memory.OutOfMemory.{OutOfMemory}
-use Rattle.sim_held.proofs.Common.{◌≡◌, ℕ, List, [], Some, None, Ok, Err, Option, Result, OnOk, sym, ◌∙◌, Act, Goes}
-use Rattle.sim_held.proofs.Common.{Life, Off, Steps, subst, Takes}
-use Rattle.std.specs.Prelude.{OnErr}
-use Rattle.sim_held.specs.{Acting.Heeds, declared.stage.Went.Went}
+use Rattle.sim_held.proofs.Common.{[], ◌∙◌, ◌≡◌, Act, Err, Goes, Life, List, None, Off, Ok, OnOk, Option, Result, Some, Steps, subst, sym, Takes, ℕ}
+use Rattle.{sim_held.specs.Acting.Heeds, sim_held.specs.declared.stage.Went.Went, std.specs.Prelude.OnErr}
 use Rattle.sim_held.specs.declared.stage.Went.TheVariants as went
 
 -- a call that was refused memory is cut off

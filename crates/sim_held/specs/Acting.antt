@@ -1,11 +1,8 @@
 -- What the steps of a client are stated by.
-use Rattle.std.specs.Prelude.{◌≡◌, ℕ, Bool, false, List, [], Some, None, Ok, Err, Option, Result}
-use Rattle.sim_base.specs.declared.setup.Setup.{Setup}
-use Rattle.sim_base.specs.declared.memory.OutOfMemory.{OutOfMemory}
-use Rattle.sim_client.specs.Lives.{Act, Joining, Life, may_play, Off, On, Said}
-use Rattle.sim_client.specs.declared.did.Did.{Did}
-use Rattle.sim_held.specs.Clients.{Goes, Stays}
-use Rattle.sim_held.specs.declared.stage.{Stage.Stage, Went.Went}
+use Rattle.sim_base.specs.declared.{memory.OutOfMemory.OutOfMemory, setup.Setup.Setup}
+use Rattle.sim_client.specs.{Lives.Act, Lives.Joining, Lives.Life, Lives.may_play, Lives.Off, Lives.On, Lives.Said, declared.did.Did.Did}
+use Rattle.sim_held.specs.{Clients.Goes, Clients.Stays, declared.stage.Stage.Stage, declared.stage.Went.Went}
+use Rattle.std.specs.Prelude.{[], ◌≡◌, Bool, Err, false, List, None, Ok, Option, Result, Some, ℕ}
 use Rattle.sim_client.specs.declared.did.Did.TheVariants as did
 use Rattle.sim_held.specs.declared.stage.Stage.TheVariants as stage
 use Rattle.sim_held.specs.declared.stage.Went.TheVariants as went

@@ -1,9 +1,8 @@
 -- What is asked for, and what is answered, of turns on a board that is made for the call.
-use Rattle.std.specs.Prelude.{◌≡◌, ℕ, ◌<◌, ◌≤◌, List, All}
-use Rattle.sim_base.specs.{Limits.IsSetup, Validity.IsValid, declared.command.PlayerCommand.PlayerCommand}
-use Rattle.sim_base.specs.declared.{setup.Setup.Setup, state.State.State}
-use Rattle.{sim_laws.specs.CommandLaws.IsOrderOf}
-use Rattle.sim_held.specs.{Clients.IsSeated, Playing.life_of, Runs.Run, Turns.RanOn, declared.playing.Playing.Playing}
+use Rattle.sim_base.specs.{Limits.IsSetup, Validity.IsValid, declared.command.PlayerCommand.PlayerCommand, declared.setup.Setup.Setup}
+use Rattle.{sim_base.specs.declared.state.State.State, sim_held.specs.Clients.IsSeated, sim_held.specs.Playing.life_of, sim_held.specs.Runs.Run}
+use Rattle.{sim_held.specs.Turns.RanOn, sim_held.specs.declared.playing.Playing.Playing, sim_laws.specs.CommandLaws.IsOrderOf}
+use Rattle.std.specs.Prelude.{◌<◌, ◌≡◌, ◌≤◌, All, List, ℕ}
 
 -- a match has a turn behind a state of it, and players of it gave these commands
 pub record CanTurn (setup : Setup) (state : State) (commands : List PlayerCommand) : Type 0 where

@@ -1,13 +1,12 @@
 -- What a call makes of a client that is held, and what it answers.
-use Rattle.std.specs.Prelude.{◌≡◌, ℕ, List, [], false, IfOk, IsOk, None, Ok, Option, Result, option_map}
-use Rattle.std.specs.Str.{is_utf8}
 use Rattle.sim_base.specs.declared.{memory.OutOfMemory.OutOfMemory, setup.Setup.Setup, state.State.State}
-use Rattle.sim_client.specs.ClientWords.{LoadsFrom, may_load, NeedsNoMemory, state_of}
-use Rattle.sim_client.specs.Lives.{hears, joins, Off, orders, Told}
-use Rattle.sim_held.specs.{Acting.may_run, Runs.Ran, Runs.runs, declared.stage.Went.Went}
-use Rattle.sim_held.specs.Clients.{ClientView, command_in, IsSame, life, LooksAt, Stays, Steps, Takes}
+use Rattle.sim_client.specs.{ClientWords.LoadsFrom, ClientWords.may_load, ClientWords.NeedsNoMemory, ClientWords.state_of, Lives.hears, Lives.joins, Lives.Off}
+use Rattle.{sim_client.specs.Lives.orders, sim_client.specs.Lives.Told, sim_held.specs.Acting.may_run, sim_held.specs.Clients.ClientView}
+use Rattle.sim_held.specs.{Clients.command_in, Clients.IsSame, Clients.life, Clients.LooksAt, Clients.Stays, Clients.Steps, Clients.Takes, Runs.Ran, Runs.runs}
+use Rattle.{sim_held.specs.declared.stage.Went.Went, sim_wire.specs.Fits.IsDownFrame, sim_wire.specs.Memory.down_carries}
+use Rattle.std.specs.Prelude.{[], ◌≡◌, false, IfOk, IsOk, List, None, Ok, Option, option_map, Result, ℕ}
+use Rattle.std.specs.Str.{is_utf8}
 use Rattle.sim_held.specs.declared.stage.Went.TheVariants as went
-use Rattle.sim_wire.specs.{Fits.IsDownFrame, Memory.down_carries}
 
 -- it wishes to join
 pub record Joins (old : ClientView) (answer : Result Went OutOfMemory) (new : ClientView) : Type 0 where

@@ -1,13 +1,11 @@
 -- What a client that is held is to its callers, and what a call makes of it.
-use Rattle.std.specs.{List.flat_map, Prelude.◌≡◌, Prelude.ℕ, Prelude.Bool, Prelude.List, Prelude.[], Prelude.◌++◌, Prelude.if◌then◌else◌}
-use Rattle.std.specs.Prelude.{Some, None, Ok, Err, Option, Result}
-use Rattle.sim_base.specs.{Limits.IsFrom, Limits.IsSetup, Validity.IsValid, declared.command.Command.Command, declared.memory.OutOfMemory.OutOfMemory}
-use Rattle.sim_base.specs.declared.{setup.Setup.Setup, state.State.State}
-use Rattle.sim_client.specs.{KnownWords.AreByPlayers, StageWords.player_at, declared.stage.Seat.Seat}
-use Rattle.sim_client.specs.Lives.{Act, Joining, Life, Off, On, Said, starts}
-use Rattle.sim_held.specs.declared.stage.{Stage.Stage, Went.Went}
+use Rattle.sim_base.specs.{Limits.IsFrom, Limits.IsSetup, Validity.IsValid}
+use Rattle.sim_base.specs.declared.{command.Command.Command, memory.OutOfMemory.OutOfMemory, setup.Setup.Setup, state.State.State}
+use Rattle.sim_client.specs.{KnownWords.AreByPlayers, Lives.Act, Lives.Joining, Lives.Life, Lives.Off, Lives.On, Lives.Said, Lives.starts, StageWords.player_at}
+use Rattle.{sim_client.specs.declared.stage.Seat.Seat, sim_held.specs.declared.stage.Stage.Stage, sim_held.specs.declared.stage.Went.Went}
 use Rattle.sim_json.specs.{Commands.command_of, Records.next_or, Values.list_of, Values.value_of}
-use Rattle.sim_wire.specs.Frames.{up_frame}
+use Rattle.{sim_wire.specs.Frames.up_frame, std.specs.List.flat_map}
+use Rattle.std.specs.Prelude.{[], if◌then◌else◌, ◌++◌, ◌≡◌, Bool, Err, List, None, Ok, Option, Result, Some, ℕ}
 use Rattle.sim_held.specs.declared.stage.Stage.TheVariants as stage
 use Rattle.sim_held.specs.declared.stage.Went.TheVariants as went
 

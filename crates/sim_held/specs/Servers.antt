@@ -1,14 +1,13 @@
 -- What a server that is held is to its callers, and what a call makes of it.
-use Rattle.std.specs.{List.flat_map, Prelude.◌≡◌, Prelude.ℕ, Prelude.◌<◌, Prelude.◌≤◌, Prelude.Bool, Prelude.true, Prelude.false, Prelude.◌&&◌, Prelude.List, Prelude.[]}
-use Rattle.std.specs.Prelude.{◌∷◌, ◌++◌, if◌then◌else◌, nat_lt, nat_le, ◌==◌, All, Some, None, Ok, Err, Option, Result}
 use Rattle.sim_base.specs.declared.{memory.OutOfMemory.OutOfMemory, setup.Setup.Setup}
-use Rattle.sim_pipes.specs.Posts.{told_to}
-use Rattle.sim_held.specs.declared.stage.Went.{TheVariants.Idle, Went}
-use Rattle.sim_held.specs.declared.stage.Went.TheVariants as went
+use Rattle.{sim_held.specs.declared.stage.Went.Went, sim_held.specs.declared.stage.Went.TheVariants.Idle, sim_pipes.specs.Posts.told_to}
 use Rattle.sim_plain.specs.{Messages.Arrival, Messages.Cut, Messages.Heard, Posts.posts, Server.heard}
 use Rattle.sim_plain.specs.declared.message.{DownOf.DownOf, PostOf.PostOf, UpOf.UpOf}
 use Rattle.sim_server.specs.{Small.IsSmallServer, Standing.server_of, Standing.StandsFor, Standing.View}
-use Rattle.sim_wire.specs.{Fits.IsSmallDown, Fits.IsUpFrame, Frames.down_frame}
+use Rattle.{sim_wire.specs.Fits.IsSmallDown, sim_wire.specs.Fits.IsUpFrame, sim_wire.specs.Frames.down_frame, std.specs.List.flat_map}
+use Rattle.std.specs.Prelude.{[], if◌then◌else◌, ◌&&◌, ◌++◌, ◌<◌, ◌==◌, ◌∷◌, ◌≡◌, ◌≤◌, All, Bool, Err, false, List, nat_le, nat_lt, None, Ok, Option, Result}
+use Rattle.std.specs.Prelude.{Some, true, ℕ}
+use Rattle.sim_held.specs.declared.stage.Went.TheVariants as went
 
 -- the server, and what it has said to clients that have not taken it yet: one list for each arrival, the oldest first
 pub record ServerView : Type 0 where

@@ -2,12 +2,11 @@
 //! body, since a function may hand out none. What the rooms of the ground hold lives on in whatever is held: the ground that was drawn, and
 //! what searches have kept.
 
-ghost use Rattle.{sim_base.specs.Limits.IsSetup, sim_base.specs.Turn.first_state as first_state_of, sim_base.specs.Turn.from, sim_base.specs.Turn.own_turns};
-ghost use Rattle.{sim_base.specs.Turn.turn as turn_by, sim_base.specs.Validity.IsValid, sim_board.specs.BoardWords.setup_in, sim_board.specs.BoardWords.systems};
-ghost use Rattle.{sim_system.specs.Meanings.HaveKinds, sim_system.specs.RigWords.systems_of};
-ghost use Rattle.std.specs.Prelude.{◌≡◌, ◌-◌, OnOk, IfOk};
-ghost use Rattle.sim_held.specs.Boards.{CanPlay, CanReach, CanTurn, HasRun, IsMade};
-ghost use Rattle.sim_held.specs.{Clients.IsSeated, Playing.life_of, Runs.runs, Turns.RanOn};
+ghost use Rattle.sim_base.specs.{Limits.IsSetup, Turn.first_state as first_state_of, Turn.from, Turn.own_turns, Turn.turn as turn_by, Validity.IsValid};
+ghost use Rattle.sim_board.specs.BoardWords.{setup_in, systems};
+ghost use Rattle.sim_held.specs.{Boards.CanPlay, Boards.CanReach, Boards.CanTurn, Boards.HasRun, Boards.IsMade, Clients.IsSeated, Playing.life_of, Runs.runs};
+ghost use Rattle.{sim_held.specs.Turns.RanOn, sim_system.specs.Meanings.HaveKinds, sim_system.specs.RigWords.systems_of};
+ghost use Rattle.std.specs.Prelude.{◌-◌, ◌≡◌, IfOk, OnOk};
 
 use crate::copying::no_state;
 use crate::planning::planned;

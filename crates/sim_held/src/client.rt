@@ -1,12 +1,11 @@
 //! A client that is held.
 
-ghost use Rattle.sim_board.specs.BoardWords.{state_in};
-ghost use Rattle.std.specs.Prelude.{◌≡◌, [], map, IfOk, IfErr, Some, option_copied, string_bytes};
-ghost use Rattle.sim_client.specs.ClientWords.{is_joining, state_of, turn_of};
-ghost use Rattle.sim_embed.specs.{Answers.IsStamp, Answers.IsStored, Bytes.OfMatch, Causes.IsNoMatch, Facts.entity_of};
-ghost use Rattle.sim_held.specs.Calls.{HearsFrame, IsCutOff, Joins, LooksAtClient, Orders, Plays};
-ghost use Rattle.sim_held.specs.Clients.{done_of, IsNew, IsSame, life, LooksAt, released_of};
-ghost use Rattle.sim_report.specs.Show.{show_text};
+ghost use Rattle.{sim_board.specs.BoardWords.state_in, sim_client.specs.ClientWords.is_joining, sim_client.specs.ClientWords.state_of};
+ghost use Rattle.{sim_client.specs.ClientWords.turn_of, sim_embed.specs.Answers.IsStamp, sim_embed.specs.Answers.IsStored, sim_embed.specs.Bytes.OfMatch};
+ghost use Rattle.{sim_embed.specs.Causes.IsNoMatch, sim_embed.specs.Facts.entity_of, sim_held.specs.Calls.HearsFrame, sim_held.specs.Calls.IsCutOff};
+ghost use Rattle.sim_held.specs.{Calls.Joins, Calls.LooksAtClient, Calls.Orders, Calls.Plays, Clients.done_of, Clients.IsNew, Clients.IsSame, Clients.life};
+ghost use Rattle.{sim_held.specs.Clients.LooksAt, sim_held.specs.Clients.released_of, sim_report.specs.Show.show_text};
+ghost use Rattle.std.specs.Prelude.{[], ◌≡◌, IfErr, IfOk, map, option_copied, Some, string_bytes};
 
 use crate::acting::{join, settle};
 use crate::beginning::first_stage;

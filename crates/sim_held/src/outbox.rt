@@ -1,8 +1,7 @@
 //! The frames of what a client says, one behind another, until they are sent.
 
-ghost use Rattle.std.specs.{List.flat_map, Prelude.◌≡◌, Prelude.[], Prelude.◌++◌, Prelude.OnOk, Prelude.IsOk, Prelude.All};
-ghost use Rattle.sim_held.specs.Clients.{frames_of};
-ghost use Rattle.sim_wire.specs.{Fits.IsSmallUp, Frames.up_frame};
+ghost use Rattle.{sim_held.specs.Clients.frames_of, sim_wire.specs.Fits.IsSmallUp, sim_wire.specs.Frames.up_frame, std.specs.List.flat_map};
+ghost use Rattle.std.specs.Prelude.{[], ◌++◌, ◌≡◌, All, IsOk, OnOk};
 
 use sim_base::OutOfMemory;
 use sim_wire::{Up, frame_up};

@@ -1,11 +1,9 @@
 //! The turn server that is held.
 
-ghost use Rattle.{sim_held.specs.Servers.frames_for, sim_held.specs.Servers.is_client as is_client_of, sim_held.specs.Servers.waiting, sim_server.specs.Standing.server_of};
-ghost use Rattle.std.specs.Prelude.{◌≡◌, ℕ, ◌≤◌, List, [], ◌&&◌, nat_le, nat_lt, true, false, IfOk, IfErr, IsOk, OnErr, Option};
 ghost use Rattle.sim_embed.specs.{Bytes.OfMatch, Causes.IsNoMatch};
-ghost use Rattle.sim_held.specs.Servers.{Answers, CutsOff, HasLost, Hears, HearsFrame, IsServer, IsServerOf, Leaves};
-ghost use Rattle.sim_plain.specs.Messages.{Heard};
-ghost use Rattle.sim_wire.specs.Fits.{IsSmallUp};
+ghost use Rattle.sim_held.specs.Servers.{Answers, CutsOff, frames_for, HasLost, Hears, HearsFrame, is_client as is_client_of, IsServer, IsServerOf, Leaves};
+ghost use Rattle.{sim_held.specs.Servers.waiting, sim_plain.specs.Messages.Heard, sim_server.specs.Standing.server_of, sim_wire.specs.Fits.IsSmallUp};
+ghost use Rattle.std.specs.Prelude.{[], ◌&&◌, ◌≡◌, ◌≤◌, false, IfErr, IfOk, IsOk, List, nat_le, nat_lt, OnErr, Option, true, ℕ};
 
 use crate::stage::Went;
 use crate::waiting::{frames_to, keep, leave};

@@ -1,11 +1,10 @@
 //! What waits for the clients of a server: the posts of each arrival, as they were made, until each client has taken its own. Frames are
 //! made as they are taken.
 
-ghost use Rattle.std.specs.{List.flat_map, Prelude.◌≡◌, Prelude.ℕ, Prelude.◌<◌, Prelude.◌≤◌, Prelude.not, Prelude.[], Prelude.◌∷◌, Prelude.◌++◌, Prelude.map};
-ghost use Rattle.std.specs.Prelude.{OnOk, IfOk, IsOk, All, if◌then◌else◌, ◌==◌, filter, vec_len, vec_capacity};
-ghost use Rattle.{sim_held.specs.Servers.AreSmall, sim_held.specs.Servers.frames_for, sim_held.specs.Servers.has_some as has_some_of, sim_held.specs.Servers.waiting, sim_pipes.specs.Posts.told_to};
-ghost use Rattle.{sim_held.specs.Servers.WaitsForClients, sim_server.specs.Standing.View};
-ghost use Rattle.sim_wire.specs.{Fits.IsSmallDown, Frames.down_frame};
+ghost use Rattle.sim_held.specs.Servers.{AreSmall, frames_for, has_some as has_some_of, waiting, WaitsForClients};
+ghost use Rattle.{sim_pipes.specs.Posts.told_to, sim_server.specs.Standing.View, sim_wire.specs.Fits.IsSmallDown, sim_wire.specs.Frames.down_frame};
+ghost use Rattle.std.specs.List.{flat_map};
+ghost use Rattle.std.specs.Prelude.{[], if◌then◌else◌, ◌++◌, ◌<◌, ◌==◌, ◌∷◌, ◌≡◌, ◌≤◌, All, filter, IfOk, IsOk, map, not, OnOk, vec_capacity, vec_len, ℕ};
 
 use sim_base::{Items, OutOfMemory};
 use sim_server::{Post, Posts};

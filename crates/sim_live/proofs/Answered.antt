@@ -1,15 +1,14 @@
 -- Lines that were answered over a session, and one line more.
-use Rattle.{sim_live.specs.Spoken.AnswersAll, sim_store.specs.declared.fault.Failed.Failed}
-use Rattle.sim_live.specs.Live.{answer, first_text, last_text, Lives, next}
-use Rattle.std.{specs.Io.KnownBytes.IsAtEnd, specs.Prelude.⊤}
-use Rattle.std.proofs.Common.{◌≡◌, ℕ, ◌+◌, ◌-◌, ◌^◌, ◌≤◌, List, [], ◌∷◌, ◌++◌, length, Ok, Err, Result, refl, ap, arith, length-append, subst, sym, ◌∙◌}
 use Rattle.sim_base.specs.declared.{setup.Setup.Setup, step.Step.Step}
-use Rattle.sim_plain_session.specs.Sessions.{opened, session}
-use Rattle.sim_session.specs.Standing.{Seen, StandsFor, StandsForSome}
-use Rattle.sim_talk.proofs.Talking.{after_lines-more, answered_all, answered_more, ended_so, Extends-nothing, stopped_amid, stopped_first}
-use Rattle.sim_talk.proofs.Talking.{caused, conversed, unbegun, unheard_behind, unmade_answer, untold_answer}
+use Rattle.sim_live.specs.{Live.answer, Live.first_text, Live.last_text, Live.Lives, Live.next, Spoken.AnswersAll}
+use Rattle.{sim_plain_session.specs.Sessions.opened, sim_plain_session.specs.Sessions.session, sim_session.specs.Standing.Seen}
+use Rattle.{sim_session.specs.Standing.StandsFor, sim_session.specs.Standing.StandsForSome, sim_store.specs.declared.fault.Failed.Failed}
+use Rattle.sim_talk.proofs.Talking.{after_lines-more, answered_all, answered_more, caused, conversed, ended_so, Extends-nothing, stopped_amid, stopped_first}
+use Rattle.sim_talk.proofs.Talking.{unbegun, unheard_behind, unmade_answer, untold_answer}
 use Rattle.sim_talk.specs.Dialogues.{after_lines, Causes, dialogue, EndsAs, TellsText}
-use Rattle.sim_talk.specs.{declared.fault.TalkFault.TalkFault, Talks.Extends, Talks.heard, Talks.Hears, Talks.History, Talks.Tells, Talks.told}
+use Rattle.sim_talk.specs.{Talks.Extends, Talks.heard, Talks.Hears, Talks.History, Talks.Tells, Talks.told, declared.fault.TalkFault.TalkFault}
+use Rattle.std.proofs.Common.{[], ◌++◌, ◌+◌, ◌-◌, ◌^◌, ◌∙◌, ◌∷◌, ◌≡◌, ◌≤◌, ap, arith, Err, length, length-append, List, Ok, refl, Result, subst, sym, ℕ}
+use Rattle.std.specs.{Io.KnownBytes.IsAtEnd, Prelude.⊤}
 use Rattle.sim_talk.specs.declared.fault.TalkFault.TheVariants as ends
 
 -- some lines were answered, and the session stands for that over their steps

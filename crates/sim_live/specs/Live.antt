@@ -1,11 +1,10 @@
 -- A session as a talk: what is answered to a line after the steps that were made, and what a whole talk is.
-use Rattle.std.specs.Prelude.{ℕ, ◌+◌, List, [], ◌∷◌, ◌++◌, length, ⊤, Result}
-use Rattle.sim_base.specs.declared.{setup.Setup.Setup, step.Step.Step as AnyStep}
-use Rattle.sim_live.specs.{LineWords.line_of, Shown.look_text}
-use Rattle.sim_live.specs.declared.line.Line.{Line, TheVariants.Look, TheVariants.Other, TheVariants.Step}
-use Rattle.sim_plain_session.specs.{Printed.events, Printed.start_events, Sessions.session}
-use Rattle.sim_session.specs.SessionText.{ending_lines, lines_of}
+use Rattle.{sim_base.specs.declared.setup.Setup.Setup, sim_base.specs.declared.step.Step.Step as AnyStep, sim_live.specs.LineWords.line_of}
+use Rattle.sim_live.specs.{Shown.look_text, declared.line.Line.Line, declared.line.Line.TheVariants.Look, declared.line.Line.TheVariants.Other}
+use Rattle.{sim_live.specs.declared.line.Line.TheVariants.Step, sim_plain_session.specs.Printed.events, sim_plain_session.specs.Printed.start_events}
+use Rattle.{sim_plain_session.specs.Sessions.session, sim_session.specs.SessionText.ending_lines, sim_session.specs.SessionText.lines_of}
 use Rattle.sim_talk.specs.{Dialogues.Converses, Marks.ok_line, Marks.refused_line, Talks.History, declared.fault.TalkFault.TalkFault}
+use Rattle.std.specs.Prelude.{[], ◌++◌, ◌+◌, ◌∷◌, length, List, Result, ℕ, ⊤}
 
 -- to a step the lines of its events, to a look what it shows, and to anything else that it is refused, with the number of the step that
 -- was made, or that would have been

@@ -1,12 +1,10 @@
 //! What is answered to a line: the whole text is made before any of it is told.
 
-ghost use Rattle.{sim_base.specs.declared.step.Step.Step as AnyStep, sim_session.specs.Going.IsOn, sim_session.specs.Standing.StandsFor};
-ghost use Rattle.{sim_lists.specs.StepLists.IsStep, sim_session.specs.SessionText.lines_of};
-ghost use Rattle.std.specs.Prelude.{◌≡◌, ℕ, ◌+◌, ◌^◌, ◌<◌, ◌≤◌, List, [], ◌∷◌, ◌++◌, length, IfOk, OnOk, string_bytes};
-ghost use Rattle.sim_live.specs.{LineWords.IsLine, Live.answer as answer_of, Live.answer_to, Live.next, Live.steps_with};
+ghost use Rattle.{sim_base.specs.declared.step.Step.Step as AnyStep, sim_lists.specs.StepLists.IsStep};
+ghost use Rattle.sim_live.specs.{Answering.Counts, Answering.Follows, LineWords.IsLine, Live.answer as answer_of, Live.answer_to, Live.next, Live.steps_with};
 ghost use Rattle.sim_plain_session.specs.{Printed.events as events_in, Sessions.session as session_over};
-ghost use Rattle.sim_live.specs.Answering.{Counts, Follows};
-ghost use Rattle.sim_session.specs.SessionWords.{seen_in, setup_in};
+ghost use Rattle.sim_session.specs.{Going.IsOn, SessionText.lines_of, SessionWords.seen_in, SessionWords.setup_in, Standing.StandsFor};
+ghost use Rattle.std.specs.Prelude.{[], ◌++◌, ◌+◌, ◌<◌, ◌^◌, ◌∷◌, ◌≡◌, ◌≤◌, IfOk, length, List, OnOk, string_bytes, ℕ};
 
 use crate::line::{Line, line_of};
 use crate::looking::push_look;

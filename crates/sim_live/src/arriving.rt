@@ -1,10 +1,9 @@
 //! What arrives by a line: bytes of a client, or the end of its connection, as a schedule spells them. A schedule can spell messages in
 //! words too; who relays has them as bytes, and a line with words is refused.
 
+ghost use Rattle.{serde_json.specs.View.view, sim_live.specs.Arrived.arriving_in as arriving_in_data};
+ghost use Rattle.sim_live.specs.{Arrived.arriving_of as arriving_of_bytes, Arrived.IsFromOne, Arrived.told_of, Reading.Reads};
 ghost use Rattle.std.specs.Prelude.{◌≡◌, IfSome};
-ghost use Rattle.sim_live.specs.Reading.{Reads};
-ghost use Rattle.serde_json.specs.View.{view};
-ghost use Rattle.sim_live.specs.Arrived.{arriving_in as arriving_in_data, arriving_of as arriving_of_bytes, IsFromOne, told_of};
 
 use serde_json::Value;
 use sim_base::OutOfMemory;

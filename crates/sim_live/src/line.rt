@@ -1,8 +1,7 @@
 //! What a line asks for: a step of the session, or a look at it. Any other line asks for nothing.
 
-ghost use Rattle.sim_live.specs.Reading.{Reads};
 ghost use Rattle.serde_json.specs.View.{view};
-ghost use Rattle.sim_live.specs.LineWords.{IsLine, line_in as line_in_data, line_of as line_of_bytes};
+ghost use Rattle.sim_live.specs.{LineWords.IsLine, LineWords.line_in as line_in_data, LineWords.line_of as line_of_bytes, Reading.Reads};
 
 use crate::look::{Look, look_of};
 use serde_json::Value;

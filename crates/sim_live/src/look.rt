@@ -1,9 +1,8 @@
 //! Lines that only look: a word, and the client that it is about.
 
+ghost use Rattle.{serde_json.specs.View.view, sim_live.specs.Looks.bare_look as bare_look_of};
+ghost use Rattle.sim_live.specs.{Looks.IsLook, Looks.look_at as look_at_word, Looks.look_in as look_in_data, Looks.look_of as look_of_data, Reading.Finds};
 ghost use Rattle.std.specs.Prelude.{◌≡◌, map};
-ghost use Rattle.sim_live.specs.Reading.{Finds};
-ghost use Rattle.serde_json.specs.View.{view};
-ghost use Rattle.sim_live.specs.Looks.{bare_look as bare_look_of, IsLook, look_at as look_at_word, look_in as look_in_data, look_of as look_of_data};
 
 use serde_json::Value;
 use sim_json::{list_of, natural_in};

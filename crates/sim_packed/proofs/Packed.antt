@@ -1,13 +1,11 @@
 -- What is packed is read back.
-use Rattle.std.proofs.Common.{◌≡◌, ℕ, zero, suc, ◌^◌, ◌<◌, ◌≤◌, false, ltb, ◌≢◌, List}
-use Rattle.std.proofs.Common.{[], ◌∷◌, ◌++◌, length, Some, refl, ap, arith, ◌∙◌, append_assoc, append-nil, All}
-use Rattle.std.proofs.lemmas.{Bool.le-ltb, Bool.ne_eqb, List.Elements.All-head, List.Elements.All-tail}
-use Rattle.std.proofs.lemmas.{List.drop_at, List.length-append, List.take_at, Nat.from_le_bytes-to_le_bytes_4}
-use Rattle.std.specs.{Prelude.◌==◌, Prelude.reverse}
+use Rattle.{sim_base.specs.Bytes.u32_bytes, sim_packed.specs.Files.cut_at, sim_packed.specs.Files.file_at, sim_packed.specs.Files.files_from}
+use Rattle.sim_packed.specs.{Files.files_in, Files.piece_at, Packing.files_bytes, Packing.IsShortFile, Packing.IsWord, Packing.piece_bytes, Packing.words_bytes}
+use Rattle.{sim_packed.specs.Words.spelled_words, sim_packed.specs.Words.words_in, sim_store.specs.Files.File, std.proofs.Common.[], std.proofs.Common.◌++◌}
+use Rattle.std.proofs.Common.{◌<◌, ◌^◌, ◌∙◌, ◌∷◌, ◌≡◌, ◌≢◌, ◌≤◌, All, ap, append-nil, append_assoc, arith, false, length, List, ltb, refl, Some, suc, zero, ℕ}
+use Rattle.std.proofs.lemmas.{Bool.le-ltb, Bool.ne_eqb, List.drop_at, List.length-append, List.take_at, List.Elements.All-head, List.Elements.All-tail}
+use Rattle.std.{proofs.lemmas.Nat.from_le_bytes-to_le_bytes_4, specs.Prelude.◌==◌, specs.Prelude.reverse}
 use mathlib.Core.List.{reverse_aux}
-use Rattle.{sim_base.specs.Bytes.u32_bytes, sim_store.specs.Files.File}
-use Rattle.sim_packed.specs.{Files.cut_at, Files.file_at, Files.files_from, Files.files_in, Files.piece_at, Packing.files_bytes, Packing.IsShortFile}
-use Rattle.sim_packed.specs.{Packing.IsWord, Packing.piece_bytes, Packing.words_bytes, Words.spelled_words, Words.words_in}
 
 -- ---- words
 

@@ -1,9 +1,8 @@
 -- How files are taken from bytes one by one, and put on a shelf.
-use Rattle.std.proofs.Common.{◌≡◌, ℕ, zero, suc, ◌<◌, ◌≤◌, Bool, true, false, ◌≢◌, List, [], ◌∷◌, length, if◌then◌else◌, Some, None, refl, ap, arith, sym, ◌∙◌}
-use Rattle.std.specs.Prelude.{is_some}
-use Rattle.std.{proofs.lemmas.Bool.false≢true, proofs.lemmas.Slice.Eq.bytes_eq-Decides, specs.Str.bytes_eq}
 use Rattle.sim_packed.specs.Files.{file_at, files_from, files_in, Holds, HoldSame}
 use Rattle.sim_store.specs.{Files.File, Files.file_in, Files.FileSet, MemShelf.counts_on, MemShelf.files_on, declared.mem_shelf.MemShelf.MemShelf}
+use Rattle.std.proofs.Common.{[], if◌then◌else◌, ◌<◌, ◌∙◌, ◌∷◌, ◌≡◌, ◌≢◌, ◌≤◌, ap, arith, Bool, false, length, List, None, refl, Some, suc, sym, true, zero, ℕ}
+use Rattle.std.{proofs.lemmas.Bool.false≢true, proofs.lemmas.Slice.Eq.bytes_eq-Decides, specs.Prelude.is_some, specs.Str.bytes_eq}
 
 -- the shelf holds the files so far, and with those that are left they are what all bytes spell
 pub record IsUnpackedTo (bytes rest : List ℕ) (shelf : MemShelf) : Type 0 where

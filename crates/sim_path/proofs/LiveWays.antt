@@ -1,12 +1,11 @@
 -- No shortest way leads to a cell that is not live.
-use Rattle.sim_path.proofs.{BestOf.best_of-more, BestOf.best_of-none, TightTrails.begin, TightTrails.IsAt, TightTrails.IsFree, TightTrails.no_more}
-use Rattle.sim_path.proofs.TightTrails.{tight-end, walk-far}
-use Rattle.sim_path.proofs.Common.{◌≡◌, ℕ, ◌+◌, ◌-◌, ◌*◌, ◌≤◌, Bool, true, not, [], ◌∷◌, None, Contains, refl, ap, arith}
-use Rattle.sim_path.proofs.Common.{AreDead, AreEnds, Cell, Contains-push, Contains-push_cases, Field, floor_cost, go, IsEnd, IsFloor, IsOnGround}
-use Rattle.sim_path.proofs.Common.{IsReached, IsStep, IsTight, least_step, octile, octile-none, octile-self, stay, step_cost, subst, sym, true≢false, Walk, ◌∙◌, ⊎_elim}
+use Rattle.sim_path.proofs.BestOf.{best_of-more, best_of-none}
+use Rattle.sim_path.proofs.Common.{[], ◌*◌, ◌+◌, ◌-◌, ◌∙◌, ◌∷◌, ◌≡◌, ◌≤◌, ap, AreDead, AreEnds, arith, Bool, Cell, Contains, Contains-push, Contains-push_cases}
+use Rattle.sim_path.proofs.Common.{Field, floor_cost, go, IsEnd, IsFloor, IsOnGround, IsReached, IsStep, IsTight, least_step, None, not, octile, octile-none}
+use Rattle.sim_path.proofs.Common.{octile-self, refl, stay, step_cost, subst, sym, true, true≢false, Walk, ℕ, ⊎_elim}
+use Rattle.sim_path.proofs.TightTrails.{begin, IsAt, IsFree, no_more, tight-end, walk-far}
 use Rattle.sim_path.specs.{Floors.IsSlope, Floors.slope_of, Live.AreLive, SlopeLaws.slope-floor, declared.slope.Slope.Slope}
-use Rattle.sim_search.proofs.Moves.{direction-of}
-use Rattle.sim_search.specs.Distances.{number_in}
+use Rattle.sim_search.{proofs.Moves.direction-of, specs.Distances.number_in}
 
 falls-by : (whole a b n k : ℕ) → n + k ≤ whole - 2 * b → whole - 2 * a ≤ n → 2 * a ≤ k + 2 * b → 10 ≤ k → 2 * b + k ≡ 2 * a
 falls-by whole a b n k e f g h = omega arith

@@ -1,8 +1,7 @@
 -- What is remembered of a way, and on which ground it is one.
-use Rattle.std.specs.Prelude.{◌≡◌, ◌-◌, ◌≤◌, Bool, List, drop, length, nat_le, reverse, take}
-use Rattle.sim_base.specs.{Limits.waypoint_limit, Steps.Field, declared.place.Cell.Cell}
-use Rattle.{sim_grid.specs.Grids.OpenCells, sim_grid.specs.Grids.field_of_grid, sim_path.specs.declared.remembered.KeptWay.KeptWay}
-use Rattle.sim_path.specs.WayEnds.{IsTrailToEnd}
+use Rattle.{sim_base.specs.Limits.waypoint_limit, sim_base.specs.Steps.Field, sim_base.specs.declared.place.Cell.Cell, sim_grid.specs.Grids.field_of_grid}
+use Rattle.{sim_grid.specs.Grids.OpenCells, sim_path.specs.WayEnds.IsTrailToEnd, sim_path.specs.declared.remembered.KeptWay.KeptWay}
+use Rattle.std.specs.Prelude.{◌-◌, ◌≡◌, ◌≤◌, Bool, drop, length, List, nat_le, reverse, take}
 
 -- the cells are the first of a way from the start on, as many as an answer has, and it is said whether these are all
 pub record AreFirst (field : Field) (start goal : Cell) (cells : List Cell) (whole : Bool) : Type 0 where

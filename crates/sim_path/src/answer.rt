@@ -1,12 +1,11 @@
 //! The way from a point to another, by its points.
 
-ghost use Rattle.{sim_grid.specs.Grids.field_of_grid, sim_search.specs.Floods.label_in};
-ghost use Rattle.std.specs.Prelude.{◌≡◌, ◌<◌, true, false, [], ◌∷◌, reverse, IfOk, if◌then◌else◌, OnOk, IsTrue, All};
-ghost use Rattle.sim_base.specs.{Places.cell_of as cell_at, Places.centre_of as centre_at, Places.is_inside, Places.IsPlaced, Places.same_cell, WayOf.way_of};
-ghost use Rattle.sim_base.specs.{Steps.IsOnGround, Ways.IsEnd, Ways.IsWay, Ways.waypoints};
-ghost use Rattle.sim_path.specs.{Answers.way_in, Remembering.AreFirst, WayEnds.AreEnds, WayEnds.HasGoneTo, WayEnds.IsTrailToEnd, WayEnds.IsWayEnd};
-ghost use Rattle.sim_path.specs.WayEnds.{LeadBack};
-ghost use Rattle.sim_search.specs.{Estimates.IsNarrow, Regions.AreLabels, Tables.cost_in, Tables.size_of};
+ghost use Rattle.sim_base.specs.Places.{cell_of as cell_at, centre_of as centre_at, is_inside, IsPlaced, same_cell};
+ghost use Rattle.sim_base.specs.{Steps.IsOnGround, WayOf.way_of, Ways.IsEnd, Ways.IsWay, Ways.waypoints};
+ghost use Rattle.{sim_grid.specs.Grids.field_of_grid, sim_path.specs.Answers.way_in, sim_path.specs.Remembering.AreFirst};
+ghost use Rattle.sim_path.specs.WayEnds.{AreEnds, HasGoneTo, IsTrailToEnd, IsWayEnd, LeadBack};
+ghost use Rattle.sim_search.specs.{Estimates.IsNarrow, Floods.label_in, Regions.AreLabels, Tables.cost_in, Tables.size_of};
+ghost use Rattle.std.specs.Prelude.{[], if◌then◌else◌, ◌<◌, ◌∷◌, ◌≡◌, All, false, IfOk, IsTrue, OnOk, reverse, true};
 
 use crate::atlas::Atlas;
 use crate::end::{best_of, end_of};

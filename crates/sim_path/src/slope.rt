@@ -3,10 +3,9 @@
 
 ghost use Rattle.sim_base.specs.{Steps.IsOnGround, Steps.octile as octile_of, declared.place.Cell.Cell};
 ghost use Rattle.sim_grid.specs.{Grids.field_of_grid, Spots.IsSpot};
-ghost use Rattle.std.specs.Prelude.{◌≡◌, ◌+◌, ◌*◌, ◌<◌, ◌≤◌, ◌≢◌, ◌↔◌, true, false, IsTrue, Some, None};
+ghost use Rattle.sim_path.specs.{Floors.slope_of, MarkTables.marked_in, Stands.IsStand, Straight.IsFirstTight, Straight.IsTight, Straight.IsTightStep};
 ghost use Rattle.sim_search.specs.Distances.{number_in, size_about};
-ghost use Rattle.sim_path.specs.{Floors.slope_of, MarkTables.marked_in, Stands.IsStand};
-ghost use Rattle.sim_path.specs.Straight.{IsFirstTight, IsTight, IsTightStep};
+ghost use Rattle.std.specs.Prelude.{◌*◌, ◌+◌, ◌<◌, ◌↔◌, ◌≡◌, ◌≢◌, ◌≤◌, false, IsTrue, None, Some, true};
 
 use crate::floor::{Descent, Floor};
 use crate::marks::Marks;

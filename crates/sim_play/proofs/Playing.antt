@@ -1,9 +1,8 @@
 -- One turn more is played, and what becomes of the systems.
-use Rattle.sim_board.proofs.Counting.{most_kept}
-use Rattle.sim_system.specs.Meanings.{AreBuiltOnceAtMost, Meaning}
-use Rattle.sim_play.proofs.Common.{OnOk, Result, setup_in, state_in, subst, systems_by}
-use Rattle.{sim_board.specs.declared.board.Board.Board, sim_play.specs.Playing.ComesToBy, sim_play.specs.Playing.GoesOnToBy}
-use Rattle.sim_play.proofs.Common.{◌≡◌, ℕ, suc, ◌+◌, ◌-◌, ap, arith, from, from_counts_turns, orders_at, own_turns, Setup, State, turn, ◌∙◌}
+use Rattle.sim_board.{proofs.Counting.most_kept, specs.declared.board.Board.Board}
+use Rattle.sim_play.proofs.Common.{◌+◌, ◌-◌, ◌∙◌, ◌≡◌, ap, arith, from, from_counts_turns, OnOk, orders_at, own_turns, Result, Setup, setup_in, State, state_in}
+use Rattle.sim_play.{proofs.Common.subst, proofs.Common.suc, proofs.Common.systems_by, proofs.Common.turn, proofs.Common.ℕ, specs.Playing.ComesToBy}
+use Rattle.{sim_play.specs.Playing.GoesOnToBy, sim_system.specs.Meanings.AreBuiltOnceAtMost, sim_system.specs.Meanings.Meaning}
 
 module _ (setup : Setup) (old new : State) (t : ℕ) (at : old.turn ≡ t) (is : new ≡ from setup old (own_turns setup old.turn (t + 1 - old.turn))) where
   one : t + 1 - old.turn ≡ 1

@@ -1,10 +1,9 @@
 //! A film of a match: its states, so many turns apart, each with the digest, the rows and their ways. The match is played once.
 
-ghost use Rattle.std.specs.Prelude.{◌≡◌, ◌≤◌, ◌++◌, IfOk, OnOk, string_bytes};
-ghost use Rattle.sim_play.specs.Common.{IsValid, setup_in, systems};
-ghost use Rattle.sim_play.specs.Common.{systems_of};
+ghost use Rattle.sim_play.specs.Common.{IsValid, setup_in, systems, systems_of};
 ghost use Rattle.sim_play.specs.Films.{film_text as text_of_film, frame_text, is_told as is_turn_told, last_state, told_frame};
 ghost use Rattle.sim_play.specs.Playing.{ComesTo, GoesOnTo, HasBegun, HasPlayed, MayBegin};
+ghost use Rattle.std.specs.Prelude.{◌++◌, ◌≡◌, ◌≤◌, IfOk, OnOk, string_bytes};
 
 use crate::lines::push_line;
 use sim_base::{OutOfMemory, Setup, State};

@@ -1,9 +1,8 @@
 //! A line for each turn of a board.
 
-ghost use Rattle.std.specs.Prelude.{◌≡◌, suc, ◌-◌, ◌≤◌, ◌++◌, OnOk, string_bytes};
-ghost use Rattle.sim_play.specs.{Common.turn_line as line_of_turn, Lines.end_from, Lines.turn_lines};
-ghost use Rattle.sim_play.specs.Common.{digest as digest_of, IsValid, setup_in, state_in};
-ghost use Rattle.sim_play.specs.Playing.{GoesOnTo, MayGoOn};
+ghost use Rattle.sim_play.specs.Common.{digest as digest_of, IsValid, setup_in, state_in, turn_line as line_of_turn};
+ghost use Rattle.sim_play.specs.{Lines.end_from, Lines.turn_lines, Playing.GoesOnTo, Playing.MayGoOn};
+ghost use Rattle.std.specs.Prelude.{◌++◌, ◌-◌, ◌≡◌, ◌≤◌, OnOk, string_bytes, suc};
 
 use sim_base::{OutOfMemory, Setup, State};
 use sim_board::Board;

@@ -1,10 +1,9 @@
 //! A match that is played by the commands of a log, with the digest of the state after each turn.
 
-ghost use Rattle.std.specs.Prelude.{◌≡◌, ◌≤◌, length, IfOk, OnOk, All};
-ghost use Rattle.sim_play.specs.{Common.systems, Common.systems_of, Films.last_state};
-ghost use Rattle.sim_play.specs.Common.{IsOrderOf, setup_in};
+ghost use Rattle.sim_play.specs.{Common.IsOrderOf, Common.setup_in, Common.systems, Common.systems_of, Films.last_state};
 ghost use Rattle.sim_play.specs.Logs.{digests_after as digests_of_turns, log_after as log_of_turns, match_turns as turns_of_match, state_after};
 ghost use Rattle.sim_play.specs.Playing.{ComesTo, GoesOnTo, HasBegun, HasPlayed, MayBegin};
+ghost use Rattle.std.specs.Prelude.{◌≡◌, ◌≤◌, All, IfOk, length, OnOk};
 
 use crate::own::match_turns;
 use sim_base::{OutOfMemory, Setup};

@@ -1,10 +1,9 @@
 //! The paid turns of a match, with a line for each.
 
-ghost use Rattle.std.specs.Prelude.{◌≡◌, suc, ◌+◌, ◌^◌, ◌<◌, ◌≤◌, ◌++◌, IfOk, OnOk, string_bytes};
-ghost use Rattle.sim_play.specs.Common.{AreKept, books_after, books_of, IsEconomy, IsValid, IsWhole};
-ghost use Rattle.sim_play.specs.Common.{orders_at, paid_turn as paid_turn_by, setup_in, state_in, systems, total};
-ghost use Rattle.sim_play.specs.Paid.{paid_lines, paid_state, paid_stocks};
+ghost use Rattle.sim_play.specs.Common.{AreKept, books_after, books_of, IsEconomy, IsValid, IsWhole, orders_at, paid_turn as paid_turn_by, setup_in, state_in};
+ghost use Rattle.sim_play.specs.{Common.systems, Common.total, Paid.paid_lines, Paid.paid_state, Paid.paid_stocks};
 ghost use Rattle.sim_play.specs.Playing.{ComesTo, GoesOnTo, HasBegun, MayBegin, MayGoOn};
+ghost use Rattle.std.specs.Prelude.{◌++◌, ◌+◌, ◌<◌, ◌^◌, ◌≡◌, ◌≤◌, IfOk, OnOk, string_bytes, suc};
 
 use crate::due::commands_of;
 use crate::lines::push_line;

@@ -1,9 +1,8 @@
 //! A whole match with an economy. The systems of a rig play it, which is handed back.
 
-ghost use Rattle.std.specs.Prelude.{◌≡◌, IfOk, OnOk, string_bytes};
 ghost use Rattle.sim_play.specs.Common.{IsEconomy, setup_in, systems, systems_of};
-ghost use Rattle.sim_play.specs.Paid.{paid_state, stock_text as text_of_stocks};
-ghost use Rattle.sim_play.specs.Playing.{ComesTo, HasPlayed, MayBegin};
+ghost use Rattle.sim_play.specs.{Paid.paid_state, Paid.stock_text as text_of_stocks, Playing.ComesTo, Playing.HasPlayed, Playing.MayBegin};
+ghost use Rattle.std.specs.Prelude.{◌≡◌, IfOk, OnOk, string_bytes};
 
 use crate::balances::push_stocks;
 use crate::market::Market;

@@ -1,9 +1,8 @@
 //! The territories of a match at a turn: a realm follows just the state of it.
 
+ghost use Rattle.sim_play.specs.Common.{after, own_turns, realm_of, setup_in, systems, systems_of};
+ghost use Rattle.sim_play.specs.{Playing.ComesTo, Playing.HasPlayed, Playing.MayReach, Realms.TellsRealm};
 ghost use Rattle.std.specs.Prelude.{◌≡◌, ◌≤◌, IfOk, OnOk, string_bytes};
-ghost use Rattle.sim_play.specs.{Common.systems_of, Realms.TellsRealm};
-ghost use Rattle.sim_play.specs.Common.{after, own_turns, realm_of, setup_in, systems};
-ghost use Rattle.sim_play.specs.Playing.{ComesTo, HasPlayed, MayReach};
 
 use crate::holdings::told;
 use crate::matches::start_until;

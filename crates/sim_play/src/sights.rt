@@ -1,10 +1,9 @@
 //! What the players of a match see, and have explored, at a turn of it. The systems of a rig play it, which is handed back.
 
-ghost use Rattle.std.specs.Prelude.{◌≡◌, ℕ, ◌-◌, ◌*◌, ◌≤◌, List, length, IfOk, OnOk, string_bytes};
-ghost use Rattle.sim_play.specs.{Common.sight_text as text_of_vision, Common.systems, Common.systems_of, Common.vision_after, States.later_of};
-ghost use Rattle.sim_play.specs.{Lines.end_from, Seen.resight_text as text_of_resight, Seen.sight_file, Seen.sight_text as text_of_sight};
-ghost use Rattle.sim_play.specs.Common.{after, cells_in, joined_at, own_turns, setup_in};
-ghost use Rattle.sim_play.specs.Playing.{ComesTo, HasPlayed, MayReach, MayResume};
+ghost use Rattle.sim_play.specs.Common.{after, cells_in, joined_at, own_turns, setup_in, sight_text as text_of_vision, systems, systems_of, vision_after};
+ghost use Rattle.sim_play.specs.{Lines.end_from, Playing.ComesTo, Playing.HasPlayed, Playing.MayReach, Playing.MayResume, Seen.resight_text as text_of_resight};
+ghost use Rattle.sim_play.specs.{Seen.sight_file, Seen.sight_text as text_of_sight, States.later_of};
+ghost use Rattle.std.specs.Prelude.{◌*◌, ◌-◌, ◌≡◌, ◌≤◌, IfOk, length, List, OnOk, string_bytes, ℕ};
 
 use crate::following::{adopt_following, start_following};
 use sim_base::{OutOfMemory, Setup, State};

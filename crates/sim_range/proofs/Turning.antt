@@ -1,9 +1,8 @@
 -- Ascending ids when one comes or goes.
-use Rattle.{sim_fact_lists.proofs.Ids.Above, sim_fact_lists.proofs.Ids.above_at, sim_fact_lists.proofs.Ids.above_by, sim_range.proofs.Common.◌∙◌}
-use Rattle.sim_range.proofs.Common.{IsStrictlyIncreasing, le-ltb, nat_cmp, ne_eqb, searched, subst, sym, with_behind, with_first, with_id, without_id}
-use Rattle.sim_range.proofs.Common.{remove, refl, AllPairs-from_increasing, ap, arith, cases_eq, cases_lt, eq-eqb, inl, inr, IsBinarySearchResult}
-use Rattle.sim_range.proofs.Common.{◌≡◌, ℕ, zero, suc, ◌+◌, ◌<◌, ◌≤◌, Bool, true, false, cond, List, [], ◌∷◌, length, get_or, nat_lt, ◌==◌, Ok, Err, insert}
-use Rattle.sim_fact_lists.proofs.Ids.{absent_there, inserted_there}
+use Rattle.sim_fact_lists.proofs.Ids.{Above, above_at, above_by, absent_there, inserted_there}
+use Rattle.sim_range.proofs.Common.{[], ◌+◌, ◌<◌, ◌==◌, ◌∙◌, ◌∷◌, ◌≡◌, ◌≤◌, AllPairs-from_increasing, ap, arith, Bool, cases_eq, cases_lt, cond, eq-eqb, Err}
+use Rattle.sim_range.proofs.Common.{false, get_or, inl, inr, insert, IsBinarySearchResult, IsStrictlyIncreasing, le-ltb, length, List, nat_cmp, nat_lt, ne_eqb}
+use Rattle.sim_range.proofs.Common.{Ok, refl, remove, searched, subst, suc, sym, true, with_behind, with_first, with_id, without_id, zero, ℕ}
 
 -- each number is below all later ones
 abbrev pub Ups : List ℕ → Type 0

@@ -1,10 +1,9 @@
 //! A note in two steps: all that may want memory is made ready, and then it is taken up without any. So a note for which no
 //! memory is found leaves all as it was.
 
-ghost use Rattle.std.specs.Prelude.{◌≡◌, ℕ, ◌<◌, length, IfSome, IfOk, OnOk, IsSome, IsTrue, Some, vec_len, vec_capacity};
-ghost use Rattle.sim_range.specs.Calling.{AreSorted, Become, MayMakeReady};
-ghost use Rattle.sim_range.specs.{Bucketed.AreBuckets, Bucketed.HaveRoom, Buckets.ArePlaced, Keeping.AreKept};
-ghost use Rattle.sim_range.specs.{Keeping.AreReady, Common.fact_with, Common.Holds, Common.IsHeld, Common.with_only};
+ghost use Rattle.sim_range.specs.{Bucketed.AreBuckets, Bucketed.HaveRoom, Buckets.ArePlaced, Calling.AreSorted, Calling.Become, Calling.MayMakeReady};
+ghost use Rattle.sim_range.specs.{Common.fact_with, Common.Holds, Common.IsHeld, Common.with_only, Keeping.AreKept, Keeping.AreReady};
+ghost use Rattle.std.specs.Prelude.{◌<◌, ◌≡◌, IfOk, IfSome, IsSome, IsTrue, length, OnOk, Some, vec_capacity, vec_len, ℕ};
 
 use crate::bucket::Bucket;
 use crate::buckets::{buckets_of, make_room};

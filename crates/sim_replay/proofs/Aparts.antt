@@ -1,8 +1,7 @@
 -- The first place at which two lists of digests differ.
-use Rattle.std.specs.List.{find, range_with_len, zip}
-use Rattle.sim_replay.proofs.Common.{Apart, apart_of, arith, bytes_eq-Decides, first_apart, is_other, IsFirstApart, map, not, Option, subst, sym, take_all}
-use Rattle.sim_replay.proofs.Common.{◌∙◌}
-use Rattle.sim_replay.proofs.Common.{◌≡◌, ℕ, zero, suc, ◌+◌, ◌<◌, Bool, true, false, cond, List, [], ◌∷◌, length, take, slice_get, Some, None, bytes_eq, refl, ap}
+use Rattle.sim_replay.proofs.Common.{[], ◌+◌, ◌<◌, ◌∙◌, ◌∷◌, ◌≡◌, ap, Apart, apart_of, arith, Bool, bytes_eq, bytes_eq-Decides, cond, false, first_apart}
+use Rattle.sim_replay.proofs.Common.{is_other, IsFirstApart, length, List, map, None, not, Option, refl, slice_get, Some, subst, suc, sym, take, take_all, true}
+use Rattle.{sim_replay.proofs.Common.zero, sim_replay.proofs.Common.ℕ, std.specs.List.find, std.specs.List.range_with_len, std.specs.List.zip}
 
 -- the first turn from this one on whose digests differ, found one by one
 abbrev pub apart_from : ℕ → List (List ℕ) → List (List ℕ) → Option Apart

@@ -1,10 +1,9 @@
 -- Texts of bytes that pass one test, cut where bytes pass another; and fronts of lines.
-use Rattle.sim_replay.proofs.Common.{drop-append_seam, first_word, is_digit, is_name_byte, IsAscii-cons, IsAscii-nil, le-leb, leb-true, list_all}
-use Rattle.sim_replay.proofs.Common.{list_all-append, ne_eqb, not_from_false, onto_first, other_words, position_or_len, slice_split, slice_split-cons_no}
-use Rattle.sim_replay.proofs.Common.{slice_split-cons_yes, take-append_seam, ◌∙◌}
-use Rattle.sim_replay.proofs.Common.{◌==◌, Some, IsAscii, bytes_eq, refl, and_from, and_parts, ap, arith, behind, cond-true, drop-append-add}
-use Rattle.sim_replay.proofs.Common.{◌≡◌, ℕ, zero, suc, ◌+◌, ◌≤◌, Bool, true, false, not, ◌&&◌, leb, List, [], ◌∷◌, ◌++◌, length, take, drop, nat_le}
-use Rattle.sim_base.proofs.Lists.{bytes_eq-same}
+use Rattle.{sim_base.proofs.Lists.bytes_eq-same, sim_replay.proofs.Common.[], sim_replay.proofs.Common.◌&&◌, sim_replay.proofs.Common.◌++◌}
+use Rattle.sim_replay.proofs.Common.{◌+◌, ◌==◌, ◌∙◌, ◌∷◌, ◌≡◌, ◌≤◌, and_from, and_parts, ap, arith, behind, Bool, bytes_eq, cond-true, drop, drop-append-add}
+use Rattle.sim_replay.proofs.Common.{drop-append_seam, false, first_word, is_digit, is_name_byte, IsAscii, IsAscii-cons, IsAscii-nil, le-leb, leb, leb-true}
+use Rattle.sim_replay.proofs.Common.{length, List, list_all, list_all-append, nat_le, ne_eqb, not, not_from_false, onto_first, other_words, position_or_len}
+use Rattle.sim_replay.proofs.Common.{refl, slice_split, slice_split-cons_no, slice_split-cons_yes, Some, suc, take, take-append_seam, true, zero, ℕ}
 
 -- a printed byte or a space
 abbrev pub is_plain : ℕ → Bool

@@ -1,12 +1,11 @@
 -- What is read can be ended to a log, and the lines of a log are read as it.
-use Rattle.sim_replay.proofs.Common.{Setup, subst, sum_by-append, sym, taken, taken_by, turn_lines, with_digest, with_order, ◌>>=◌, ◌∙◌}
-use Rattle.sim_replay.proofs.Common.{and_from, and_parts, ap, append-nil, append_assoc, AreOrders, arith, BeginsLog, CommandFits, cond-false, cond-true}
-use Rattle.sim_replay.proofs.Common.{digest_line, drop-append_seam, eq-eqb, eqb-true, header_line, is_by, IsDigest, IsLog, IsOrder, le-ltb}
-use Rattle.sim_replay.proofs.Common.{drop, replicate, ◌==◌, slice_index, Some, All, Option, refl, All-cons, All-drop, All-head, All-nil, All-rest, All-tail}
-use Rattle.sim_replay.proofs.Common.{length-append, lines_from, Log, log_in, log_lines, lt-ltb, ltb-true, nothing, order_in, order_line, PlayerCommand, Reading}
-use Rattle.sim_replay.proofs.Common.{◌≡◌, ℕ, zero, suc, ◌+◌, ◌^◌, ◌<◌, ◌≤◌, Bool, cond, ◌&&◌, ltb, List, [], ◌∷◌, ◌++◌, map, length}
-use Rattle.sim_replay.proofs.Options.{bind_some, bound, passed}
-use Rattle.sim_replay.proofs.PrintedLines.{digest_in-line, digest_in-order, order_in-line}
+use Rattle.sim_replay.proofs.Common.{[], ◌&&◌, ◌++◌, ◌+◌, ◌<◌, ◌==◌, ◌>>=◌, ◌^◌, ◌∙◌, ◌∷◌, ◌≡◌, ◌≤◌, All, All-cons, All-drop, All-head, All-nil, All-rest}
+use Rattle.sim_replay.proofs.Common.{All-tail, and_from, and_parts, ap, append-nil, append_assoc, AreOrders, arith, BeginsLog, Bool, CommandFits, cond}
+use Rattle.sim_replay.proofs.Common.{cond-false, cond-true, digest_line, drop, drop-append_seam, eq-eqb, eqb-true, header_line, is_by, IsDigest, IsLog, IsOrder}
+use Rattle.sim_replay.proofs.Common.{le-ltb, length, length-append, lines_from, List, Log, log_in, log_lines, lt-ltb, ltb, ltb-true, map, nothing, Option}
+use Rattle.sim_replay.proofs.Common.{order_in, order_line, PlayerCommand, Reading, refl, replicate, Setup, slice_index, Some, subst, suc, sum_by-append, sym}
+use Rattle.sim_replay.proofs.{Common.taken, Common.taken_by, Common.turn_lines, Common.with_digest, Common.with_order, Common.zero, Common.ℕ, Options.bind_some}
+use Rattle.sim_replay.proofs.{Options.bound, Options.passed, PrintedLines.digest_in-line, PrintedLines.digest_in-order, PrintedLines.order_in-line}
 use Rattle.sim_replay.proofs.Taking.{few_ids, may_have-from, MayHave, Spells, spells-digest, spells-taken}
 
 -- ---- the end

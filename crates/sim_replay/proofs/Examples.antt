@@ -1,7 +1,6 @@
 -- Worked examples of lists of digests, and of words that spell numbers.
-use Rattle.std.proofs.Common.{◌≡◌, ℕ, List, [], ◌∷◌, Some, None, refl}
-use Rattle.std.specs.Prelude.{codes}
-use Rattle.sim_replay.specs.{Apart.first_apart, Words.naturals_of}
+use Rattle.{sim_replay.specs.Apart.first_apart, sim_replay.specs.Words.naturals_of, std.proofs.Common.[], std.proofs.Common.◌∷◌}
+use Rattle.std.{proofs.Common.◌≡◌, proofs.Common.List, proofs.Common.None, proofs.Common.refl, proofs.Common.Some, proofs.Common.ℕ, specs.Prelude.codes}
 unfoldable use Rattle.sim_replay.specs.Words.{natural_of}
 
 -- of two turns that differ the first one is told

@@ -1,9 +1,8 @@
 //! The messages of the server as text.
 
+ghost use Rattle.sim_report.specs.{Appending.Appends, Appending.AppendsInParts, Downs.command_text, Downs.down_text, Downs.ids_text, Downs.next_id};
+ghost use Rattle.sim_report.specs.{Downs.notice_text, Downs.order_text, Downs.turn_order_text, Show.point_text};
 ghost use Rattle.std.specs.Prelude.{◌++◌, codes, decimal, flat_map};
-ghost use Rattle.sim_report.specs.Appending.{Appends, AppendsInParts};
-ghost use Rattle.sim_report.specs.Downs.{command_text, down_text, ids_text, next_id, notice_text, order_text, turn_order_text};
-ghost use Rattle.sim_report.specs.Show.{point_text};
 
 use crate::line::report_kind;
 use crate::show::write_point;

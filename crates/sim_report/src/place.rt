@@ -1,8 +1,7 @@
 //! The place at which two states differ, as text: which part of which entity, and the bytes that each state has of it.
 
-ghost use Rattle.std.specs.Prelude.{◌≡◌, ◌++◌, OnOk, string_bytes};
-ghost use Rattle.sim_report.specs.Appending.{Appends};
-ghost use Rattle.sim_report.specs.Places.{bits_line, part_name as name_of_part, place_text};
+ghost use Rattle.sim_report.specs.{Appending.Appends, Places.bits_line, Places.part_name as name_of_part, Places.place_text};
+ghost use Rattle.std.specs.Prelude.{◌++◌, ◌≡◌, OnOk, string_bytes};
 
 use sim_base::OutOfMemory;
 use sim_bytes::push_hex;

@@ -1,9 +1,8 @@
 //! Why something is refused, as a line of its own. The seven causes are one type, since a refused run of the program
 //! prints one of them and no more.
 
-ghost use Rattle.std.specs.Prelude.{◌≡◌, ◌++◌, OnOk, string_bytes};
-ghost use Rattle.sim_report.specs.Appending.{Appends};
-ghost use Rattle.sim_report.specs.Refusals.{refusal_text};
+ghost use Rattle.sim_report.specs.{Appending.Appends, Refusals.refusal_text};
+ghost use Rattle.std.specs.Prelude.{◌++◌, ◌≡◌, OnOk, string_bytes};
 
 use sim_base::OutOfMemory;
 

@@ -1,7 +1,6 @@
 //! The lines of a server: what it tells whom, and what it has come to.
 
-ghost use Rattle.sim_report.specs.Appending.{Appends, AppendsInParts};
-ghost use Rattle.sim_report.specs.Downs.{kept_line, post_line, released_line};
+ghost use Rattle.sim_report.specs.{Appending.Appends, Appending.AppendsInParts, Downs.kept_line, Downs.post_line, Downs.released_line};
 
 use crate::down::{append_down, append_number};
 use sim_base::OutOfMemory;

@@ -1,9 +1,8 @@
 //! A state as text: a line of its clock, and a line of each row with the parts that the row has.
 
-ghost use Rattle.std.specs.Prelude.{◌≡◌, ◌++◌, OnOk, string_bytes, All};
-ghost use Rattle.sim_report.specs.Appending.{Appends, AppendsInParts};
-ghost use Rattle.sim_base.specs.NumberText.{text_of};
+ghost use Rattle.{sim_base.specs.NumberText.text_of, sim_report.specs.Appending.Appends, sim_report.specs.Appending.AppendsInParts};
 ghost use Rattle.sim_report.specs.Show.{attack_text, clock_line, HasTemplate, health_text, hold_text, motion_text, point_text, row_head, row_line, show_text};
+ghost use Rattle.std.specs.Prelude.{◌++◌, ◌≡◌, All, OnOk, string_bytes};
 
 use sim_base::{Aim, Fixed, Motion, OutOfMemory, Point, Row, Setup, State};
 

@@ -1,7 +1,6 @@
 //! The line of what a player has in the end of a match with an economy.
 
-ghost use Rattle.sim_report.specs.Appending.{Appends, AppendsInParts};
-ghost use Rattle.sim_report.specs.Lines.{stock_line};
+ghost use Rattle.sim_report.specs.{Appending.Appends, Appending.AppendsInParts, Lines.stock_line};
 
 use crate::line::append_number;
 use sim_base::OutOfMemory;

@@ -1,9 +1,8 @@
 //! The lines of the territories of a match: what each player holds of the ground, and a digest that stands for who holds which
 //! cell.
 
+ghost use Rattle.sim_report.specs.{Appending.Appends, Appending.AppendsInParts, Lines.holding_line, Lines.map_line, Lines.spaced_number};
 ghost use Rattle.std.specs.Prelude.{◌++◌};
-ghost use Rattle.sim_report.specs.Appending.{Appends, AppendsInParts};
-ghost use Rattle.sim_report.specs.Lines.{holding_line, map_line, spaced_number};
 
 use crate::line::{append_digest, append_number};
 use sim_base::OutOfMemory;

@@ -1,10 +1,8 @@
 -- Cells that are added to a list one after another, and those that are gone through.
-use Rattle.sim_search.proofs.Common.{◌≡◌, ℕ, suc, ◌+◌, ◌<◌, ◌≤◌, true, ◌⊎◌, List, [], ◌∷◌, ◌++◌, All, Contains, length, Some, take}
-use Rattle.sim_search.proofs.Common.{alone, ap, arith, Cell, Contains-append_left, Contains-push, Contains-push_cases, eq-or-lt_of_le, Field, inl, inr, IsJoined}
-use Rattle.sim_search.proofs.Common.{Bool, eqb-true, false, IsOnGround, IsOpenStep, neighbour, subst, sym, take_all, true≢false, zero, ◌∙◌}
-use Rattle.std.specs.Prelude.{◌==◌}
-use Rattle.sim_search.specs.Mending.{AreAdded, IsInside}
-use Rattle.sim_search.specs.declared.region.Window.{Window}
+use Rattle.sim_search.proofs.Common.{[], ◌++◌, ◌+◌, ◌<◌, ◌∙◌, ◌∷◌, ◌≡◌, ◌≤◌, ◌⊎◌, All, alone, ap, arith, Bool, Cell, Contains, Contains-append_left}
+use Rattle.sim_search.proofs.Common.{Contains-push, Contains-push_cases, eq-or-lt_of_le, eqb-true, false, Field, inl, inr, IsJoined, IsOnGround, IsOpenStep}
+use Rattle.sim_search.proofs.Common.{length, List, neighbour, Some, subst, suc, sym, take, take_all, true, true≢false, zero, ℕ}
+use Rattle.{sim_search.specs.Mending.AreAdded, sim_search.specs.Mending.IsInside, sim_search.specs.declared.region.Window.Window, std.specs.Prelude.◌==◌}
 
 -- those in the directions before one
 pub record Adding (field : Field) (w : Window) (from : Cell) (old new : List Cell) (n : ℕ) : Type 0 where

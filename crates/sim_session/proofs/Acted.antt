@@ -1,7 +1,6 @@
 -- A client that acts without loading a state does what one may that loads one.
 use Rattle.sim_session.proofs.Beside.{kept_built, kept_most}
-use Rattle.sim_session.proofs.Common.{ActsBy, Client, Event, events_by, has_load, Held, LoadsBy, Meaning, Step, systems_on, Result, List}
-use Rattle.sim_session.proofs.Common.{IfOk, Ok, Err}
+use Rattle.sim_session.proofs.Common.{ActsBy, Client, Err, Event, events_by, has_load, Held, IfOk, List, LoadsBy, Meaning, Ok, Result, Step, systems_on}
 
 each : {V E : Type 0} {Q : V → Type 0} (result : Result V E) → ((v : V) → Q v) → IfOk result Q
 each (Ok v) all = all v

@@ -1,12 +1,11 @@
 -- Rigs that forget all, one after another.
-use Rattle.std.proofs.{Common.⊎_elim, lemmas.Bool.cases_eq, lemmas.List.get_or-set_other, lemmas.List.get_or-set_same, lemmas.List.take_more_set}
-use Rattle.std.proofs.{Math.ListN.set, lemmas.List.Elements.All-append, lemmas.List.Elements.All-cons, lemmas.List.Elements.All-nil}
-use Rattle.std.proofs.{Common.drop, lemmas.List.drop-map, lemmas.List.get_or-map}
-use Rattle.std.proofs.{lemmas.List.map-set, lemmas.List.take-append-drop, lemmas.List.Elements.All-drop, lemmas.List.Elements.All-set}
-use Rattle.{sim_client.specs.StageWords.AreCleared, sim_session.specs.Rigs.AreBuiltAtMost}
-use Rattle.sim_session.proofs.{Builds.all_built_so, Builds.never_built, TextCommon.All, TextCommon.AllBuiltAtMost, TextCommon.nowhere, TextCommon.Systems}
-use Rattle.sim_session.proofs.TextCommon.{◌≡◌, ℕ, ◌+◌, ◌-◌, ◌<◌, List, [], ◌∷◌, map, length, get_or, take, refl, ap, arith, sym, subst, ◌∙◌}
-use Rattle.sim_system.specs.Meanings.{all_cleared, HaveKinds}
+use Rattle.sim_client.specs.StageWords.{AreCleared}
+use Rattle.sim_session.proofs.{Builds.all_built_so, Builds.never_built, TextCommon.[], TextCommon.◌+◌, TextCommon.◌-◌, TextCommon.◌<◌}
+use Rattle.sim_session.proofs.TextCommon.{◌∙◌, ◌∷◌, ◌≡◌, All, AllBuiltAtMost, ap, arith, get_or, length, List, map, nowhere, refl, subst, sym, Systems, take, ℕ}
+use Rattle.{sim_session.specs.Rigs.AreBuiltAtMost, sim_system.specs.Meanings.all_cleared, sim_system.specs.Meanings.HaveKinds}
+use Rattle.std.proofs.{Common.drop, Common.⊎_elim, Math.ListN.set, lemmas.Bool.cases_eq}
+use Rattle.std.proofs.lemmas.List.{drop-map, get_or-map, get_or-set_other, get_or-set_same, map-set, take-append-drop, take_more_set}
+use Rattle.std.proofs.lemmas.List.Elements.{All-append, All-cons, All-drop, All-nil, All-set}
 
 forgotten : (s : Systems) → AreCleared (all_cleared s)
 forgotten s = record {

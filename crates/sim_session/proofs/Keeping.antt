@@ -1,11 +1,10 @@
 -- What a session keeps over a call and another, and what of its rigs comes back behind both.
-use Rattle.{std.proofs.Common.drop, std.specs.Prelude.vec_capacity, std.specs.Prelude.Vec, sim_system.specs.RigWords.systems_by as rig_by}
 use Rattle.sim_session.proofs.{Builds.front_built, Coming.all_back, Coming.same_count}
-use Rattle.sim_session.proofs.TextCommon.{◌≡◌, ◌++◌, List, length, AllBuiltAtMost, ap, builds_of, length-map, Meaning}
-use Rattle.sim_session.proofs.TextCommon.{refl, Setup, StepList, subst, sym, systems_by, systems_on, ◌∙◌, ℕ}
-use Rattle.sim_session.specs.Going.{ComeBackBy, KeepsBy, MayBeginBy}
-use Rattle.sim_session.specs.SessionWords.{IsSessionBy, MayFinishBy, rigs_by}
-use Rattle.{sim_session.specs.declared.session.Session.Session, sim_system.specs.declared.rig.Rig.Rig, sim_system.specs.Meanings.HaveKinds}
+use Rattle.sim_session.proofs.TextCommon.{◌++◌, ◌∙◌, ◌≡◌, AllBuiltAtMost, ap, builds_of, length, length-map, List, Meaning, refl, Setup, StepList, subst, sym}
+use Rattle.sim_session.{proofs.TextCommon.systems_by, proofs.TextCommon.systems_on, proofs.TextCommon.ℕ, specs.Going.ComeBackBy, specs.Going.KeepsBy}
+use Rattle.sim_session.specs.{Going.MayBeginBy, SessionWords.IsSessionBy, SessionWords.MayFinishBy, SessionWords.rigs_by, declared.session.Session.Session}
+use Rattle.sim_system.specs.{Meanings.HaveKinds, RigWords.systems_by as rig_by, declared.rig.Rig.Rig}
+use Rattle.std.{proofs.Common.drop, specs.Prelude.Vec, specs.Prelude.vec_capacity}
 
 module _ {Y X : Type 0} {G : Y → Type 0} {F : X → Type 0} {M : _} (m : (i : X) → F i → Meaning) where
   pub kept : (a : Session Y X G F M) → MayFinishBy a m → KeepsBy m a a

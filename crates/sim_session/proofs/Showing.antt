@@ -1,16 +1,15 @@
 -- An event of a session shows what the steps up to its own led to, and each step has the events that are of it.
-use Rattle.{sim_plain_session.specs.Pasts.kept_turns, sim_session.proofs.TextCommon.turns_in, sim_session.proofs.TextCommon.◌∙◌}
-use Rattle.std.proofs.{Common.◌⊎◌, Common.inr, lemmas.Bool.and_from, lemmas.List.Elements.All-head}
 use Rattle.sim_base.specs.{Limits.IsFrom, Turn.Turn, declared.command.PlayerCommand.PlayerCommand}
-use Rattle.sim_lists.specs.StepLists.{IsStepList}
-use Rattle.sim_plain_session.proofs.{Enabling.steps_have_events, GoingOn.session_goes_on, Shown.carries_either, Shown.events_are_shown, Shown.starts_are_shown}
-use Rattle.sim_plain_session.specs.{Clients.begun, Clients.digest_of, Clients.Joining, Clients.Off, Clients.On, Laws.Carries, Laws.IsAt, Laws.IsShown}
+use Rattle.{sim_lists.specs.StepLists.IsStepList, sim_plain_session.proofs.Enabling.steps_have_events, sim_plain_session.proofs.GoingOn.session_goes_on}
+use Rattle.sim_plain_session.{proofs.Shown.carries_either, proofs.Shown.events_are_shown, proofs.Shown.starts_are_shown, specs.Clients.begun}
+use Rattle.sim_plain_session.specs.{Clients.digest_of, Clients.Joining, Clients.Off, Clients.On, Laws.Carries, Laws.IsAt, Laws.IsShown, Pasts.kept_turns}
+use Rattle.sim_session.proofs.TextCommon.{[], ◌++◌, ◌∙◌, ◌∷◌, ◌≡◌, ◌≤◌, after, All, ap, append-nil, append_assoc, arith, client_of, cond-true, digest, end_of}
+use Rattle.sim_session.proofs.TextCommon.{Event, events_after, holds_session, inl, is_active, is_client, IsStep, le-leb, List, lt-ltb, min, opened, Phase, refl}
+use Rattle.sim_session.proofs.TextCommon.{Session, session, session_of, Setup, start_events, Step, StepList, stepped, subst, suc, sym, true, turns_in, zero, ℕ}
+use Rattle.sim_session.specs.Laws.{EndsShowPasts, EventsShowPasts, IsStepAt, PlaysAreTold, ShowsPast, StandsAt, StartsShowPasts, StepsAreTold, StepsShowPasts}
+use Rattle.sim_session.specs.SessionText.{events_of, session_at, step_events}
 use Rattle.sim_session_laws.proofs.{Basics.all_right, Final.released_are_final, PastFacts.unbent_are_kept, TurnNumberFacts.turns_are_released}
-use Rattle.sim_session.proofs.TextCommon.{client_of, cond-true, digest, end_of, Event, events_after, holds_session, inl, is_active, is_client, IsStep, le-leb}
-use Rattle.sim_session.proofs.TextCommon.{lt-ltb, opened, Phase, Session, session, session_of, Setup, start_events, Step, StepList, stepped, subst, sym}
-use Rattle.sim_session.proofs.TextCommon.{◌≡◌, ℕ, zero, suc, ◌≤◌, min, true, List, [], ◌∷◌, ◌++◌, All, refl, after, ap, append-nil, append_assoc, arith}
-use Rattle.sim_session.specs.{Laws.StepsShowPasts, SessionText.events_of, SessionText.session_at, SessionText.step_events}
-use Rattle.sim_session.specs.Laws.{EndsShowPasts, EventsShowPasts, IsStepAt, PlaysAreTold, ShowsPast, StandsAt, StartsShowPasts, StepsAreTold}
+use Rattle.std.proofs.{Common.◌⊎◌, Common.inr, lemmas.Bool.and_from, lemmas.List.Elements.All-head}
 use Rattle.sim_base.specs.declared.step.Event.TheVariants as event
 use Rattle.sim_base.specs.declared.step.Step.TheVariants as step
 use Rattle.sim_session.specs.declared.ending.End.TheVariants as ends

@@ -1,15 +1,14 @@
 -- What becomes of a session and of the rigs of its clients: the facts of each call by name. A clause passes ⟦<dyn System as System>⟧ for `sys`.
-use Rattle.{sim_lists.specs.StepLists.IsStepList, sim_lists.specs.declared.step_list.StepList.StepList}
-use Rattle.std.specs.Prelude.{◌≡◌, ℕ, ◌-◌, ◌≤◌, List, ◌++◌, length, drop, IfOk, OnOk, IsOk, vec_capacity, All, Result, Vec}
 use Rattle.sim_base.specs.{Limits.IsSetup, declared.setup.Setup.Setup, declared.step.Event.Event, declared.step.Step.Step}
 use Rattle.sim_client.specs.{Lives.Life, StageWords.AreCleared, declared.client.Client.Client}
+use Rattle.sim_lists.specs.{StepLists.IsStepList, declared.step_list.StepList.StepList}
 use Rattle.sim_plain_session.specs.{Printed.events, Sessions.client_of, Sessions.opened, Sessions.session as session_over}
-use Rattle.sim_session.specs.{Building.AreBuilt, Building.AreBuiltIf, Building.ChangeAt, Building.has_load, SessionText.session_of}
-use Rattle.sim_session.specs.{Rigs.AllBuiltAtMost, Rigs.builds_of, Standing.IsIdle}
-use Rattle.sim_session.specs.{Standing.StandsFor, Standing.StandsForSome, declared.session.Session.Session}
-use Rattle.sim_session.specs.SessionWords.{AreMembersBy, clients_in, IsSessionBy, lives_of, MayFinishBy}
-use Rattle.sim_session.specs.SessionWords.{rigs_by, room_in, seen_in, setup_in, spare_in, systems_by}
+use Rattle.sim_session.specs.Building.{AreBuilt, AreBuiltIf, ChangeAt, has_load}
+use Rattle.sim_session.specs.{Rigs.AllBuiltAtMost, Rigs.builds_of, SessionText.session_of, SessionWords.AreMembersBy}
+use Rattle.sim_session.specs.SessionWords.{clients_in, IsSessionBy, lives_of, MayFinishBy, rigs_by, room_in, seen_in, setup_in, spare_in, systems_by}
+use Rattle.sim_session.specs.{Standing.IsIdle, Standing.StandsFor, Standing.StandsForSome, declared.session.Session.Session}
 use Rattle.sim_system.specs.{Meanings.HaveKinds, Meanings.Meaning, Meanings.Systems, declared.rig.Rig.Rig, declared.system.System.Ghosts}
+use Rattle.std.specs.Prelude.{◌++◌, ◌-◌, ◌≡◌, ◌≤◌, All, drop, IfOk, IsOk, length, List, OnOk, Result, Vec, vec_capacity, ℕ}
 
 -- ---- rigs
 

@@ -1,15 +1,14 @@
 //! The kinds of step, each by one client beside the server and the pipes.
 
-ghost use Rattle.{sim_base.specs.Limits.HasFewIds, sim_base.specs.declared.setup.Setup.Setup as AnySetup};
-ghost use Rattle.{sim_pipes.specs.Exchanges.Conveys, sim_plain.specs.Messages.carry_up, sim_wire.specs.Fits.IsSmallUp};
-ghost use Rattle.{sim_plain_session.specs.Bytes.spelled, sim_plain_session.specs.Clients.Acted, sim_server.specs.Standing.IsClient};
-ghost use Rattle.std.specs.Prelude.{◌≡◌, true, false, [], map, IfOk, OnOk, IsOk, None, All};
-ghost use Rattle.sim_client.specs.{ClientWords.HasDigest, ClientWords.IsSound, ClientWords.life, ClientWords.setup_in, LifeLaws.shows};
-ghost use Rattle.sim_client.specs.Lives.{bends, joins, orders, plays};
-ghost use Rattle.sim_plain_session.specs.{Printed.events_by, Sessions.acts, Sessions.client_of as client_in, Sessions.Session, Sessions.stepped_by};
-ghost use Rattle.sim_session.specs.Acting.{Acts, Loads, MayAct, MayHear};
-ghost use Rattle.sim_session.specs.Printing.{has_happened, is_off as is_off_of, played_events, said_events as events_said};
-ghost use Rattle.sim_session.specs.Standing.{IsSmallStep, said_by, StandBeside};
+ghost use Rattle.{sim_base.specs.Limits.HasFewIds, sim_base.specs.declared.setup.Setup.Setup as AnySetup, sim_client.specs.ClientWords.HasDigest};
+ghost use Rattle.sim_client.specs.{ClientWords.IsSound, ClientWords.life, ClientWords.setup_in, LifeLaws.shows, Lives.bends, Lives.joins, Lives.orders};
+ghost use Rattle.{sim_client.specs.Lives.plays, sim_pipes.specs.Exchanges.Conveys, sim_plain.specs.Messages.carry_up};
+ghost use Rattle.sim_plain_session.specs.{Bytes.spelled, Clients.Acted, Printed.events_by, Sessions.acts, Sessions.client_of as client_in, Sessions.Session};
+ghost use Rattle.{sim_plain_session.specs.Sessions.stepped_by, sim_server.specs.Standing.IsClient};
+ghost use Rattle.sim_session.specs.{Acting.Acts, Acting.Loads, Acting.MayAct, Acting.MayHear, Printing.has_happened, Printing.is_off as is_off_of};
+ghost use Rattle.sim_session.specs.{Printing.played_events, Printing.said_events as events_said, Standing.IsSmallStep, Standing.said_by, Standing.StandBeside};
+ghost use Rattle.sim_wire.specs.Fits.{IsSmallUp};
+ghost use Rattle.std.specs.Prelude.{[], ◌≡◌, All, false, IfOk, IsOk, map, None, OnOk, true};
 ghost use Rattle.sim_base.specs.declared.step.Event.TheVariants as event;
 ghost use Rattle.sim_base.specs.declared.step.Step.TheVariants as step;
 

@@ -1,8 +1,7 @@
 //! The line of what a client has come to.
 
-ghost use Rattle.sim_report.specs.Appending.{Appends};
-ghost use Rattle.std.specs.Prelude.{◌≡◌, ◌++◌, OnOk, string_bytes};
-ghost use Rattle.sim_session.specs.Endings.{end_line};
+ghost use Rattle.{sim_report.specs.Appending.Appends, sim_session.specs.Endings.end_line};
+ghost use Rattle.std.specs.Prelude.{◌++◌, ◌≡◌, OnOk, string_bytes};
 
 use sim_base::OutOfMemory;
 use sim_report::push_turn;

@@ -1,13 +1,12 @@
 //! A session that is begun, goes through its steps and is told.
 
-ghost use Rattle.sim_lists.specs.StepLists.{IsStepList};
-ghost use Rattle.std.specs.Prelude.{◌≡◌, ◌++◌, IfOk, OnOk, string_bytes};
 ghost use Rattle.sim_client.specs.ClientWords.{digest_of, IsSound, life, setup_in as client_setup_in};
+ghost use Rattle.sim_lists.specs.StepLists.{IsStepList};
 ghost use Rattle.sim_plain_session.specs.{Printed.events_after, Printed.start_events, Sessions.opened};
-ghost use Rattle.sim_session.specs.SessionWords.{rigs_of, setup_in};
-ghost use Rattle.sim_session.specs.{SessionText.lines_of, SessionText.session_of, SessionText.session_text as text_of_session, Starts.start_lines};
-ghost use Rattle.sim_session.specs.{Going.ComeBackBuilt, Going.HasOpened, Going.MayBegin, Going.MayPass, Going.Passes};
-ghost use Rattle.sim_session.specs.Rigs.{AllStand, builds_of, loads_in};
+ghost use Rattle.sim_session.specs.Going.{ComeBackBuilt, HasOpened, MayBegin, MayPass, Passes};
+ghost use Rattle.sim_session.specs.{Rigs.AllStand, Rigs.builds_of, Rigs.loads_in, SessionText.lines_of, SessionText.session_of};
+ghost use Rattle.sim_session.specs.{SessionText.session_text as text_of_session, SessionWords.rigs_of, SessionWords.setup_in, Starts.start_lines};
+ghost use Rattle.std.specs.Prelude.{◌++◌, ◌≡◌, IfOk, OnOk, string_bytes};
 
 use crate::closing::push_ending;
 use crate::session::Session;

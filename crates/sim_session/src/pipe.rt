@@ -1,8 +1,7 @@
 //! The line of a pipe: how long the frames are that lie in it.
 
-ghost use Rattle.sim_report.specs.Appending.{Appends};
-ghost use Rattle.std.specs.Prelude.{◌≡◌, ◌++◌, OnOk, string_bytes};
-ghost use Rattle.sim_session.specs.Pipes.{lengths_text, pipe_line};
+ghost use Rattle.{sim_report.specs.Appending.Appends, sim_session.specs.Pipes.lengths_text, sim_session.specs.Pipes.pipe_line};
+ghost use Rattle.std.specs.Prelude.{◌++◌, ◌≡◌, OnOk, string_bytes};
 
 use sim_base::OutOfMemory;
 use sim_wire::Bytes;

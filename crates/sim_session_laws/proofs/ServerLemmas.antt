@@ -1,16 +1,15 @@
 -- What the server does, as each client sees it.
-use Rattle.sim_session_laws.proofs.Common.{Heard, heard, In, inl, inr, is_by, is_client, is_in, is_out, Joining, keeps, least_done, leb-true, lesser}
-use Rattle.sim_session_laws.proofs.Common.{command_fault, commands_at, cond-false, cond-true, crowd_fault, differs, donor, Down, eq-eqb, eqb-true}
-use Rattle.sim_session_laws.proofs.Common.{ltb-true, ne_eqb, nobody, Off, On, Out, Past, Phase, PlayerCommand, posts, put, raised}
-use Rattle.sim_session_laws.proofs.Common.{nat_le, ◌==◌, Some, None, count_by, Option, refl, and_parts, ap, append-nil, arith, asked, begun, cases_eq, Command}
-use Rattle.sim_session_laws.proofs.Common.{raised_to, refusal, release, report_fault, reported, rules_of, Seat, seat, Server, Setup, Status, subst, sym, to_all}
-use Rattle.sim_session_laws.proofs.Common.{put_other, true≢false, turns_in, unless, Up, Waiting, with_status, ◌∙◌}
-use Rattle.sim_session_laws.proofs.Common.{◌≡◌, ℕ, zero, suc, ◌<◌, ◌≤◌, Bool, true, false, ◌&&◌, ◌⊎◌, List, [], ◌∷◌, ◌++◌, map, if◌then◌else◌, nat_lt}
-use Rattle.sim_session_laws.proofs.Invariant.{Fits, GoodDowns, Plays}
+use Rattle.sim_plain.proofs.{Final.raised_more, Statuses.least_done_le, Statuses.Stay, Statuses.stay_put}
+use Rattle.sim_session_laws.proofs.Common.{[], if◌then◌else◌, ◌&&◌, ◌++◌, ◌<◌, ◌==◌, ◌∙◌, ◌∷◌, ◌≡◌, ◌≤◌, ◌⊎◌, and_parts, ap, append-nil, arith, asked, begun}
+use Rattle.sim_session_laws.proofs.Common.{Bool, cases_eq, Command, command_fault, commands_at, cond-false, cond-true, count_by, crowd_fault, differs, donor}
+use Rattle.sim_session_laws.proofs.Common.{Down, eq-eqb, eqb-true, false, Heard, heard, In, inl, inr, is_by, is_client, is_in, is_out, Joining, keeps}
+use Rattle.sim_session_laws.proofs.Common.{least_done, leb-true, lesser, List, ltb-true, map, nat_le, nat_lt, ne_eqb, nobody, None, Off, On, Option, Out, Past}
+use Rattle.sim_session_laws.proofs.Common.{Phase, PlayerCommand, posts, put, put_other, raised, raised_to, refl, refusal, release, report_fault, reported}
+use Rattle.sim_session_laws.proofs.Common.{rules_of, Seat, seat, Server, Setup, Some, Status, subst, suc, sym, to_all, true, true≢false, turns_in, unless, Up}
+use Rattle.sim_session_laws.proofs.{Common.Waiting, Common.with_status, Common.zero, Common.ℕ, Invariant.Fits, Invariant.GoodDowns, Invariant.Plays}
 use Rattle.sim_session_laws.proofs.PlaysLemmas.{plays_kept, plays_posted, plays_released, plays_told}
 use Rattle.sim_plain.specs.declared.message.DownOf.TheVariants as down
 use Rattle.sim_plain.specs.declared.message.UpOf.TheVariants as up
-use Rattle.sim_plain.proofs.{Final.raised_more, Statuses.least_done_le, Statuses.Stay, Statuses.stay_put}
 
 -- ---- the least
 

@@ -1,9 +1,8 @@
 -- Protocols that are wrong, each with the law whose words it breaks: a few steps lead it to a session of which the law is false.
-use Rattle.sim_session_laws.proofs.Common.{BehindStateAreKept, DonesAreNear, DonesAreTurns, Down, idle, In, inl, inr, IsOrderOf, Joining, keeps}
-use Rattle.sim_session_laws.proofs.Common.{KeptAreOfPlayers, KnownAndComingAreKept, Off, OffIsOut, On, opened, order, Out, Phase, played, PlayerCommand, put}
-use Rattle.sim_session_laws.proofs.Common.{Resign, Seat, Server, Session, session, Setup, Status, Step, stepped, three, told, Turn, TurnsAreReleased, two}
-use Rattle.sim_session_laws.proofs.Common.{UnbentAreKept, Waiting}
-use Rattle.sim_session_laws.proofs.Common.{◌≡◌, ℕ, ◌≤◌, min, max, List, [], ◌∷◌, ◌++◌, refl, Acted, acts, after_steps, All-head, arith, begun}
+use Rattle.sim_session_laws.proofs.Common.{[], ◌++◌, ◌∷◌, ◌≡◌, ◌≤◌, Acted, acts, after_steps, All-head, arith, begun, BehindStateAreKept, DonesAreNear}
+use Rattle.sim_session_laws.proofs.Common.{DonesAreTurns, Down, idle, In, inl, inr, IsOrderOf, Joining, keeps, KeptAreOfPlayers, KnownAndComingAreKept, List}
+use Rattle.sim_session_laws.proofs.Common.{max, min, Off, OffIsOut, On, opened, order, Out, Phase, played, PlayerCommand, put, refl, Resign, Seat, Server}
+use Rattle.sim_session_laws.proofs.Common.{Session, session, Setup, Status, Step, stepped, three, told, Turn, TurnsAreReleased, two, UnbentAreKept, Waiting, ℕ}
 use Rattle.sim_base.specs.declared.step.Step.TheVariants as step
 use Rattle.sim_plain.specs.declared.message.DownOf.TheVariants as down
 use Rattle.sim_plain.specs.declared.message.UpOf.TheVariants as up

@@ -1,9 +1,8 @@
 //! How much food and metal each player has. Good 0 is food, and good 1 is metal.
 
-ghost use Rattle.std.specs.Prelude.{◌≡◌, ◌+◌, ◌^◌, ◌<◌, ◌≤◌, true};
-ghost use Rattle.sim_base.specs.Limits.{IsFrom};
-ghost use Rattle.sim_stock.specs.{PaidTurns.affords as affords_by, PaidTurns.earned, PaidTurns.paid, Rates.IsRate};
-ghost use Rattle.sim_stock.specs.Stocks.{amount_of, gained, spent, total};
+ghost use Rattle.{sim_base.specs.Limits.IsFrom, sim_stock.specs.PaidTurns.affords as affords_by};
+ghost use Rattle.sim_stock.specs.{PaidTurns.earned, PaidTurns.paid, Rates.IsRate, Stocks.amount_of, Stocks.gained, Stocks.spent, Stocks.total};
+ghost use Rattle.std.specs.Prelude.{◌+◌, ◌<◌, ◌^◌, ◌≡◌, ◌≤◌, true};
 
 use crate::rate::Rate;
 

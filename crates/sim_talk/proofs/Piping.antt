@@ -1,11 +1,9 @@
 -- What a talk over an input and a sink tells of what it heard and told.
-use Rattle.{sim_store.specs.declared.fault.Failed.Failed, sim_talk.specs.declared.fault.HearFault.HearFault}
-use Rattle.std.proofs.Common.{◌≡◌, ℕ, List, [], ◌∷◌, ◌++◌, length, Some, None, Ok, Err, Option, Result}
-use Rattle.std.proofs.{Common.append-nil, Common.refl, Common.subst, Common.sym, Math.Seq.take-length}
-use Rattle.sim_talk.proofs.Talking.{Appends-nothing, Consumes-nothing}
-use Rattle.sim_talk.specs.{Lines.IsCause, Lines.MissesOf, Lines.ReadCounts, LineTalk.piped, LineTalk.TellCounts, LineTalk.TellsOut}
-use Rattle.sim_talk.specs.Talks.{History, IsBeginning, Misses, part_of, Says, Tells}
-use Rattle.std.specs.{Io.KnownBytes.Appends, Io.KnownBytes.prepend_known, Prelude.⊤}
+use Rattle.{sim_store.specs.declared.fault.Failed.Failed, sim_talk.proofs.Talking.Appends-nothing, sim_talk.proofs.Talking.Consumes-nothing}
+use Rattle.sim_talk.specs.{LineTalk.piped, LineTalk.TellCounts, LineTalk.TellsOut, Lines.IsCause, Lines.MissesOf, Lines.ReadCounts, Talks.History}
+use Rattle.sim_talk.specs.{Talks.IsBeginning, Talks.Misses, Talks.part_of, Talks.Says, Talks.Tells, declared.fault.HearFault.HearFault}
+use Rattle.std.proofs.Common.{[], ◌++◌, ◌∷◌, ◌≡◌, append-nil, Err, length, List, None, Ok, Option, refl, Result, Some, subst, sym, ℕ}
+use Rattle.std.{proofs.Math.Seq.take-length, specs.Io.KnownBytes.Appends, specs.Io.KnownBytes.prepend_known, specs.Prelude.⊤}
 use Rattle.sim_talk.specs.Talks as talks
 
 -- a cause that the bytes show is one where they are told

@@ -1,14 +1,13 @@
 -- What passed, and then what passed behind it; and one line more is answered behind those that were.
-use Rattle.{sim_store.specs.Counts.raised, sim_store.specs.Counts.Rose, sim_store.specs.declared.fault.Failed.Failed}
-use Rattle.sim_talk.specs.{declared.fault.TalkFault.TalkFault, Lines.feed, Lines.ReadCounts, Lines.IsCause, declared.fault.HearFault.HearFault}
-use Rattle.std.{proofs.Common.◌∙◌, proofs.Math.Seq.take-length, proofs.Math.Seq.take-nil, specs.Prelude.⊤}
-use Rattle.std.specs.Io.KnownBytes.{Appends, Consumes, IsAtEnd}
-use Rattle.std.proofs.Common.{◌≡◌, ℕ, ◌-◌, ◌^◌, ◌<◌, List, [], ◌∷◌, ◌++◌, length, take, Some, None, Ok, Err, Option}
-use Rattle.std.proofs.Common.{Result, inl, inr, refl, ap, append-nil, append_assoc, arith, subst, sym}
-use Rattle.sim_talk.specs.Dialogues.{after_lines, AnswersLines, Causes, Converses, dialogue, EndsAs, IsAll, IsCutOff, Speaks, talk_so_far, TellsText}
-use Rattle.sim_talk.specs.Dialogues.{amid_answer, answer_part, before_line, first_part, IsUntold, last_part, no_answer, no_first, no_last, no_line}
-use Rattle.sim_talk.specs.Talks.{Extends, Grows, HasLost, heard, heard_bytes, Hears, History, IsBeginning, Loses, Misses, part_of, Passed, Says}
-use Rattle.sim_talk.specs.Talks.{Tells, told, told_bytes, Writes, WritesAll}
+use Rattle.sim_store.specs.{Counts.raised, Counts.Rose, declared.fault.Failed.Failed}
+use Rattle.sim_talk.specs.Dialogues.{after_lines, amid_answer, answer_part, AnswersLines, before_line, Causes, Converses, dialogue, EndsAs, first_part, IsAll}
+use Rattle.sim_talk.specs.Dialogues.{IsCutOff, IsUntold, last_part, no_answer, no_first, no_last, no_line, Speaks, talk_so_far, TellsText}
+use Rattle.sim_talk.specs.Lines.{feed, IsCause, ReadCounts}
+use Rattle.sim_talk.specs.Talks.{Extends, Grows, HasLost, heard, heard_bytes, Hears, History, IsBeginning, Loses, Misses, part_of, Passed, Says, Tells, told}
+use Rattle.sim_talk.specs.{Talks.told_bytes, Talks.Writes, Talks.WritesAll, declared.fault.HearFault.HearFault, declared.fault.TalkFault.TalkFault}
+use Rattle.std.proofs.Common.{[], ◌++◌, ◌-◌, ◌<◌, ◌^◌, ◌∙◌, ◌∷◌, ◌≡◌, ap, append-nil, append_assoc, arith, Err, inl, inr, length, List, None, Ok, Option, refl}
+use Rattle.std.proofs.{Common.Result, Common.Some, Common.subst, Common.sym, Common.take, Common.ℕ, Math.Seq.take-length, Math.Seq.take-nil}
+use Rattle.std.specs.{Io.KnownBytes.Appends, Io.KnownBytes.Consumes, Io.KnownBytes.IsAtEnd, Prelude.⊤}
 use Rattle.sim_talk.specs.declared.fault.TalkFault.TheVariants as ends
 
 -- ---- the parts of a history

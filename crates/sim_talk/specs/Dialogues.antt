@@ -1,11 +1,9 @@
 -- Talks in which each line is answered before the next one is heard. Who answers is told by two functions: what is answered to a
 -- line, by what he has come to, and what he comes to by it.
-use Rattle.std.specs.Prelude.{◌≡◌, ℕ, ◌-◌, ◌^◌, ◌<◌, ◌⊎◌, List, [], ◌∷◌, ◌++◌, length, ⊤, Some, None, Ok, Err, Option, Result}
-use Rattle.sim_store.specs.Counts.{Rose}
-use Rattle.sim_talk.specs.{Lines.ReadCounts}
+use Rattle.{sim_store.specs.Counts.Rose, sim_talk.specs.Lines.ReadCounts}
 use Rattle.sim_talk.specs.Talks.{Breaks, Extends, HasLost, heard, heard_bytes, History, IsBeginning, Loses, Misses, Passed, told, WritesAll}
-use Rattle.sim_talk.specs.declared.fault.TalkFault.{TalkFault}
-use Rattle.std.specs.Io.KnownBytes.{IsAtEnd}
+use Rattle.{sim_talk.specs.declared.fault.TalkFault.TalkFault, std.specs.Io.KnownBytes.IsAtEnd}
+use Rattle.std.specs.Prelude.{[], ◌++◌, ◌-◌, ◌<◌, ◌^◌, ◌∷◌, ◌≡◌, ◌⊎◌, Err, length, List, None, Ok, Option, Result, Some, ℕ, ⊤}
 use Rattle.sim_talk.specs.declared.fault.TalkFault.TheVariants as ends
 
 -- what he has come to after these lines

@@ -1,8 +1,7 @@
 //! The trait of a talk: what comes and what goes, in one history, so that a clause can say what had been told when a line was asked
 //! for. What is told may be kept for a while, and is written before anybody is waited for.
 
-ghost use Rattle.sim_talk.specs.Dialogues.{EndsAs};
-ghost use Rattle.sim_talk.specs.Talks.{Hears, History, Settles, Tells};
+ghost use Rattle.sim_talk.specs.{Dialogues.EndsAs, Talks.Hears, Talks.History, Talks.Settles, Talks.Tells};
 
 use crate::fault::TalkFault;
 use sim_store::Failed;

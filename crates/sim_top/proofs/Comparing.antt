@@ -1,12 +1,11 @@
 -- Two stored states of a match, which are compared: the second is read where the first is a state.
 use Rattle.sim_top.proofs.Answering.{at_files, both_causes, both_given, both_told, comes_to, ends, gave_state, Loads, match_there, may_state}
-use Rattle.sim_top.proofs.Common.{IsRefusal, IsRefused, IsState, LacksFirst, length_in, length_read, ListRefused, LogRefused, match_in, MatchRefused, MayFinish}
-use Rattle.sim_top.proofs.Common.{NoFile, Outcome, OutOfMemory, Place, ReadFault, ReadsState, Setup, Shelved, SightRefused, State, StateRefused, Stop, Stopped}
-use Rattle.sim_top.proofs.Common.{difference_of, EconomyRefused, File, Gave, GaveToState, HoldsState, IsAnswerTo, IsMade, IsOfState, IsOutcomeOf, IsReading}
-use Rattle.sim_top.proofs.Common.{subst, sym, Then, to_compare, TooLong, ◌∙◌}
-use Rattle.sim_top.proofs.Common.{◌≡◌, ℕ, ◌+◌, List, length, IfSome, IfOk, Some, None, Ok, Err, Option, Result, refl, Answer, bytes_in, compare_by}
-use Rattle.sim_top.proofs.Completeness.{after_reading, id_of_match, not_refused}
-use Rattle.sim_top.proofs.Counting.{counted_after, gave_both, gave_on}
+use Rattle.sim_top.proofs.Common.{◌+◌, ◌∙◌, ◌≡◌, Answer, bytes_in, compare_by, difference_of, EconomyRefused, Err, File, Gave, GaveToState, HoldsState, IfOk}
+use Rattle.sim_top.proofs.Common.{IfSome, IsAnswerTo, IsMade, IsOfState, IsOutcomeOf, IsReading, IsRefusal, IsRefused, IsState, LacksFirst, length, length_in}
+use Rattle.sim_top.proofs.Common.{length_read, List, ListRefused, LogRefused, match_in, MatchRefused, MayFinish, NoFile, None, Ok, Option, Outcome, OutOfMemory}
+use Rattle.sim_top.proofs.Common.{Place, ReadFault, ReadsState, refl, Result, Setup, Shelved, SightRefused, Some, State, StateRefused, Stop, Stopped, subst}
+use Rattle.sim_top.proofs.{Common.sym, Common.Then, Common.to_compare, Common.TooLong, Common.ℕ, Completeness.after_reading, Completeness.id_of_match}
+use Rattle.sim_top.proofs.{Completeness.not_refused, Counting.counted_after, Counting.gave_both, Counting.gave_on}
 use Rattle.sim_top.proofs.Stopping.{file_ends, file_goes_on, state_goes_on, Stopped-weaker, Then-ended, Told-all}
 use Rattle.sim_top.specs.{Outcome.IsCompared, declared.stop.Stop.TheVariants.NoSuchTurn}
 

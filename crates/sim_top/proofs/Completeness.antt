@@ -1,16 +1,15 @@
 -- Where each file that is read is good and no fault was counted, a run came to its end or there was no memory.
-use Rattle.{sim_codec.proofs.Standing.no_fault, sim_codec.specs.Loading.StandsFor, sim_top.specs.Outcome.match_by, sim_top.specs.Readiness.HoldsLog}
-use Rattle.sim_setup.proofs.SetupLimits.{setup_of-id}
-use Rattle.sim_top.proofs.{Common.Usage, Common.WriteFault, Common.◌∙◌, Playing.turn_there}
-use Rattle.sim_top.proofs.Common.{bytes_in, Causes, compare_by, Counts, difference_of, Differs, digests_after, Done, economy_in, File, first_apart, HoldsState}
-use Rattle.sim_top.proofs.Common.{inl, inr, IsFaultless, IsFinal, IsLogged, IsOutcomeOf, IsReady, IsRealmOutcome, IsResighted, IsStored, le-ltb, Log, log_by}
-use Rattle.sim_top.proofs.Common.{map_at, match_in, Meets, NoSuchTurn, Outcome, own_turns, Place, printed, raised, RealmAt, rejoin_outcome, Scene, schedule_in}
-use Rattle.sim_top.proofs.Common.{session_match_in, Setup, setup_by, setup_of, sight_outcome, State, state_by, StateFault, Status, steps_in, store_outcome}
-use Rattle.sim_top.proofs.Common.{subst, sym, Then, ThenLog, ThenStored, to_check, to_compare, to_film, to_log, to_parts, to_play, to_realm, to_record}
-use Rattle.sim_top.proofs.Common.{to_rejoin, to_resight, to_resume, to_serve, to_session, to_show, to_sight, to_stock, to_store, to_try, trial_match, turn_by}
-use Rattle.sim_top.proofs.Common.{◌≡◌, ℕ, ◌≤◌, ◌⊎◌, List, length, Some, None, Ok, Err, Option, Result, refl, after, ap, Apart, apart_by, arith, Asked, asked_by}
-use Rattle.sim_top.specs.declared.status.Status.TheVariants.{EconomyRefused, ListRefused, LogRefused, MatchRefused, NoFile, OutOfMemory, ReadFault}
-use Rattle.sim_top.specs.declared.status.Status.TheVariants.{SightRefused, StateRefused, TooLong}
+use Rattle.{sim_codec.proofs.Standing.no_fault, sim_codec.specs.Loading.StandsFor, sim_setup.proofs.SetupLimits.setup_of-id}
+use Rattle.sim_top.proofs.Common.{◌∙◌, ◌≡◌, ◌≤◌, ◌⊎◌, after, ap, Apart, apart_by, arith, Asked, asked_by, bytes_in, Causes, compare_by, Counts, difference_of}
+use Rattle.sim_top.proofs.Common.{Differs, digests_after, Done, economy_in, Err, File, first_apart, HoldsState, inl, inr, IsFaultless, IsFinal, IsLogged}
+use Rattle.sim_top.proofs.Common.{IsOutcomeOf, IsReady, IsRealmOutcome, IsResighted, IsStored, le-ltb, length, List, Log, log_by, map_at, match_in, Meets, None}
+use Rattle.sim_top.proofs.Common.{NoSuchTurn, Ok, Option, Outcome, own_turns, Place, printed, raised, RealmAt, refl, rejoin_outcome, Result, Scene, schedule_in}
+use Rattle.sim_top.proofs.Common.{session_match_in, Setup, setup_by, setup_of, sight_outcome, Some, State, state_by, StateFault, Status, steps_in}
+use Rattle.sim_top.proofs.Common.{store_outcome, subst, sym, Then, ThenLog, ThenStored, to_check, to_compare, to_film, to_log, to_parts, to_play, to_realm}
+use Rattle.sim_top.proofs.Common.{to_record, to_rejoin, to_resight, to_resume, to_serve, to_session, to_show, to_sight, to_stock, to_store, to_try, trial_match}
+use Rattle.sim_top.{proofs.Common.turn_by, proofs.Common.Usage, proofs.Common.WriteFault, proofs.Common.ℕ, proofs.Playing.turn_there, specs.Outcome.match_by}
+use Rattle.sim_top.specs.{Readiness.HoldsLog, declared.status.Status.TheVariants.EconomyRefused, declared.status.Status.TheVariants.ListRefused}
+use Rattle.sim_top.specs.declared.status.Status.TheVariants.{LogRefused, MatchRefused, NoFile, OutOfMemory, ReadFault, SightRefused, StateRefused, TooLong}
 use Rattle.sim_codec.specs.declared.fault.StateFault.TheVariants as stored
 
 -- an outcome with which a command comes to its end

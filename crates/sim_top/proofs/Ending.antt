@@ -1,10 +1,9 @@
 -- With which status a run ends, by that of what was made; and what was told of words that are in no table.
-use Rattle.sim_top.proofs.{Common.subst, Common.sym, Common.Tells, Common.Usage, Common.WriteFault, Finishing.none_told}
-use Rattle.sim_top.proofs.Common.{GaveForWords, HasEnded, inl, inr, IsSettled, IsSilent, IsUnfound, IsUnplayed, MayEnd, NoSuchTurn, Status, status_of, Stop}
-use Rattle.sim_top.proofs.Common.{◌≡◌, ℕ, ◌<◌, List, [], length, take, Some, None, Option, refl, Appends, Asked, Counts, Differs, Done, File, GaveFor}
-use Rattle.sim_top.specs.{Answers.IsUsageTold, Making.IsUsageMade}
-use Rattle.sim_top.specs.declared.status.Status.TheVariants.{EconomyRefused, ListRefused, LogRefused, MatchRefused, NoFile, OutOfMemory, ReadFault}
-use Rattle.sim_top.specs.declared.status.Status.TheVariants.{SightRefused, StateRefused, TooLong}
+use Rattle.sim_top.proofs.Common.{[], ◌<◌, ◌≡◌, Appends, Asked, Counts, Differs, Done, File, GaveFor, GaveForWords, HasEnded, inl, inr, IsSettled, IsSilent}
+use Rattle.sim_top.proofs.Common.{IsUnfound, IsUnplayed, length, List, MayEnd, None, NoSuchTurn, Option, refl, Some, Status, status_of, Stop, subst, sym, take}
+use Rattle.sim_top.{proofs.Common.Tells, proofs.Common.Usage, proofs.Common.WriteFault, proofs.Common.ℕ, proofs.Finishing.none_told, specs.Answers.IsUsageTold}
+use Rattle.sim_top.specs.{Making.IsUsageMade, declared.status.Status.TheVariants.EconomyRefused, declared.status.Status.TheVariants.ListRefused}
+use Rattle.sim_top.specs.declared.status.Status.TheVariants.{LogRefused, MatchRefused, NoFile, OutOfMemory, ReadFault, SightRefused, StateRefused, TooLong}
 use Rattle.sim_top.specs.declared.stop.Stop.TheVariants as stops
 
 -- ---- any words may end with a write fault or for want of memory

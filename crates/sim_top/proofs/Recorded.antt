@@ -1,19 +1,18 @@
 -- A session that is recorded: its match and its steps were read and it was run and its log made, or one of them could not be read; the
 -- turns that it released are turns of the match; and what has become of the rigs with which it was run, the first of which plays the log.
-use Rattle.std.proofs.lemmas.List.{drop-map, FromFn.length-map-range_with_len, Elements.All-drop, Elements.All-map}
-use Rattle.std.proofs.{Common.zero, Common.◌-◌, Math.Seq.drop-nil}
-use Rattle.std.specs.{List.range_with_len, Prelude.if◌then◌else◌, Prelude.◌==◌, Prelude.slice_index_or}
-use Rattle.{sim_client.specs.StageWords.AreCleared, sim_client.specs.StageWords.nowhere, sim_session.specs.SessionWords.rigs_by}
-use Rattle.{sim_laws.specs.CommandLaws.IsOrderOf, sim_session_laws.proofs.Runs.holds_session, sim_system.specs.declared.rig.Rig.Rig}
-use Rattle.sim_session.{proofs.Builds.never_built, proofs.Builds.once_built, specs.Recording.released_turns}
-use Rattle.sim_session.specs.Rigs.{AllBuiltAtMost, AreBuiltAtMost}
-use Rattle.sim_system.specs.Meanings.{Meaning}
+use Rattle.sim_client.specs.StageWords.{AreCleared, nowhere}
+use Rattle.{sim_laws.specs.CommandLaws.IsOrderOf, sim_session.proofs.Builds.never_built, sim_session.proofs.Builds.once_built}
+use Rattle.sim_session.specs.{Recording.released_turns, Rigs.AllBuiltAtMost, Rigs.AreBuiltAtMost, SessionWords.rigs_by}
+use Rattle.{sim_session_laws.proofs.Runs.holds_session, sim_system.specs.Meanings.Meaning, sim_system.specs.declared.rig.Rig.Rig}
 use Rattle.sim_top.proofs.Answering.{both_causes, both_given, both_same, both_told, comes_to, list_ends_at, match_there, Opens}
-use Rattle.sim_top.proofs.Common.{◌≡◌, ℕ, suc, ◌≤◌, List, [], ◌∷◌, map, length, drop, IfSome, IfOk, OnOk, Some, Ok, Err, All, Result, refl, codes, Answer, ap}
-use Rattle.sim_top.proofs.Common.{arith, AreFed, File, IsAnswerTo, IsMade, IsOfList, IsOutcomeOf, IsReading, IsStepList, log_after, logged_as, Outcome}
-use Rattle.sim_top.proofs.Common.{session_match_in, session_of, Setup, Shelved, State, state_after, StepList, steps_in, Stop, Stopped, subst, sym, systems_by}
-use Rattle.sim_top.proofs.{Common.Then, Common.to_record, Common.◌∙◌, Stopping.Stopped-weaker, Stopping.Then-ended, Stopping.Then-read, Stopping.Told-both}
-use Rattle.sim_top.specs.{Hosting.IsRecordedBy, Rigs.HasPlayedBy, Rigs.OfFirsts}
+use Rattle.sim_top.proofs.Common.{[], ◌∙◌, ◌∷◌, ◌≡◌, ◌≤◌, All, Answer, ap, AreFed, arith, codes, drop, Err, File, IfOk, IfSome, IsAnswerTo, IsMade, IsOfList}
+use Rattle.sim_top.proofs.Common.{IsOutcomeOf, IsReading, IsStepList, length, List, log_after, logged_as, map, Ok, OnOk, Outcome, refl, Result}
+use Rattle.sim_top.proofs.Common.{session_match_in, session_of, Setup, Shelved, Some, State, state_after, StepList, steps_in, Stop, Stopped, subst, suc, sym}
+use Rattle.sim_top.proofs.{Common.systems_by, Common.Then, Common.to_record, Common.ℕ, Stopping.Stopped-weaker, Stopping.Then-ended, Stopping.Then-read}
+use Rattle.sim_top.{proofs.Stopping.Told-both, specs.Hosting.IsRecordedBy, specs.Rigs.HasPlayedBy, specs.Rigs.OfFirsts}
+use Rattle.std.proofs.{Common.◌-◌, Common.zero, Math.Seq.drop-nil}
+use Rattle.std.proofs.lemmas.List.{drop-map, Elements.All-drop, Elements.All-map, FromFn.length-map-range_with_len}
+use Rattle.std.specs.{List.range_with_len, Prelude.if◌then◌else◌, Prelude.◌==◌, Prelude.slice_index_or}
 
 module _ (game steps out : List ℕ) where
   -- what comes of the steps

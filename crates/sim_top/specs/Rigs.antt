@@ -1,12 +1,11 @@
 -- How many rigs a command uses, and what their systems stand for when it came to its end.
-use Rattle.std.specs.Prelude.{◌≡◌, ℕ, List, [], ◌∷◌, length, IfOk, OnOk, Some, None, All, Option, Result}
 use Rattle.sim_system.specs.Meanings.{Systems}
-use Rattle.sim_top.specs.{Common.Setup, Common.State, Common.state_after, Common.systems_by, declared.commands.Answer.Answer, declared.stop.Stop.Stop}
-use Rattle.sim_top.specs.{Outcome.bytes_in, Outcome.economy_in, Outcome.match_in, Outcome.Outcome, Outcome.trial_match, Stops.IsLogOf, Stops.IsState}
 use Rattle.sim_top.specs.Common.{after, AreBuiltOnceAtMost, AreCleared, AreFed, end_from, File, first_state, Ghosts, HaveKinds, Log, Meaning, own_turns}
-use Rattle.sim_top.specs.Common.{paid_state, Rig}
-use Rattle.sim_top.specs.Words.{Asked, to_check, to_compare, to_film, to_log, to_parts, to_play, to_realm, to_record, to_rejoin, to_resight, to_resume}
-use Rattle.sim_top.specs.Words.{to_serve, to_session, to_show, to_sight, to_stock, to_store, to_try}
+use Rattle.sim_top.specs.{Common.paid_state, Common.Rig, Common.Setup, Common.State, Common.state_after, Common.systems_by, Outcome.bytes_in}
+use Rattle.sim_top.specs.{Outcome.economy_in, Outcome.match_in, Outcome.Outcome, Outcome.trial_match, Stops.IsLogOf, Stops.IsState, Words.Asked, Words.to_check}
+use Rattle.sim_top.specs.Words.{to_compare, to_film, to_log, to_parts, to_play, to_realm, to_record, to_rejoin, to_resight, to_resume, to_serve, to_session}
+use Rattle.sim_top.specs.{Words.to_show, Words.to_sight, Words.to_stock, Words.to_store, Words.to_try, declared.commands.Answer.Answer, declared.stop.Stop.Stop}
+use Rattle.std.specs.Prelude.{[], ◌∷◌, ◌≡◌, All, IfOk, length, List, None, OnOk, Option, Result, Some, ℕ}
 
 -- how many rigs are handed to the clients that play for what is asked, each with one of its own; to a session, all
 abbrev pub clients : Asked → ℕ

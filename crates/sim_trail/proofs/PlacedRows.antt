@@ -1,9 +1,8 @@
 -- The rows of a valid state lie on the largest ground.
-use Rattle.std.proofs.{Common.MatchOption, Common.Some, Common.None, Common.All, Common.Option, Common.List, lemmas.List.Elements.All-weaker}
-use Rattle.sim_base.{proofs.GroundPoints.inside_placed, specs.Limits.IsSetup, specs.Rows.template_of, specs.Validity.IsKnownRow, specs.Validity.IsValid}
-use Rattle.sim_base.specs.{Validity.IsValidRow, declared.setup.Setup.Setup, declared.state.Row.Row, declared.state.State.State}
-use Rattle.sim_base.specs.declared.template.Template.{Template}
-use Rattle.sim_trail.specs.Marks.{IsPlacedRow}
+use Rattle.sim_base.{proofs.GroundPoints.inside_placed, specs.Limits.IsSetup, specs.Rows.template_of, specs.Validity.IsKnownRow}
+use Rattle.sim_base.specs.{Validity.IsValid, Validity.IsValidRow, declared.setup.Setup.Setup, declared.state.Row.Row, declared.state.State.State}
+use Rattle.{sim_base.specs.declared.template.Template.Template, sim_trail.specs.Marks.IsPlacedRow}
+use Rattle.std.proofs.{Common.All, Common.List, Common.MatchOption, Common.None, Common.Option, Common.Some, lemmas.List.Elements.All-weaker}
 
 -- a row's template is known
 pub known_row : {P : Template → Type 0} (o : Option Template) → MatchOption o ⊥ P → (t : Template) × P t

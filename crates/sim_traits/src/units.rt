@@ -1,10 +1,9 @@
 //! The templates that a template trains, which is the one part that takes memory. The walk over the list ends at the
 //! first word that is no name, and at the 65th that is one.
 
-ghost use Rattle.{sim_traits.specs.Meets.Meets, sim_traits.specs.Parts.part_of, sim_tree.specs.Tokens.is_word, sim_tree.specs.Trees.node_of};
-ghost use Rattle.std.specs.List.{filter_map};
-ghost use Rattle.std.specs.Prelude.{◌≡◌, ◌<◌, ◌≤◌, true, false, [], ◌∷◌, ◌++◌, length, IfSome, IfOk, All, filter};
-ghost use Rattle.sim_traits.specs.{Table.train_part, Units.is_admitted, Units.number_in, Units.units_in as units_in_text, Values.train_in as train_in_node};
+ghost use Rattle.sim_traits.specs.{Meets.Meets, Parts.part_of, Table.train_part, Units.is_admitted, Units.number_in, Units.units_in as units_in_text};
+ghost use Rattle.{sim_traits.specs.Values.train_in as train_in_node, sim_tree.specs.Tokens.is_word, sim_tree.specs.Trees.node_of, std.specs.List.filter_map};
+ghost use Rattle.std.specs.Prelude.{[], ◌++◌, ◌<◌, ◌∷◌, ◌≡◌, ◌≤◌, All, false, filter, IfOk, IfSome, length, true};
 
 use crate::fault::TraitFault;
 use crate::fields::{lacks, text_at};

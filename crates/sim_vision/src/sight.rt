@@ -1,11 +1,10 @@
 //! What all players see and have seen, kept from state to state.
 
-ghost use Rattle.std.specs.List.{zip};
-ghost use Rattle.std.specs.Prelude.{◌≡◌, ℕ, ◌*◌, ◌≤◌, true, false, ◌⊎◌, List, ◌∷◌, map, length, take, IfOk, IfErr, OnOk, OnErr, Some, None, Err, All};
-ghost use Rattle.sim_vision.specs.{After.all_seen, After.blind, After.joined_at, After.last_of, After.vision_after, After.vision_next, Told.explored_file};
+ghost use Rattle.sim_vision.specs.After.{all_seen, blind, joined_at, last_of, vision_after, vision_next};
 ghost use Rattle.sim_vision.specs.Common.{IsSetup, IsValid, list_all, list_any, Row as AnyRow, State as AnyState};
-ghost use Rattle.sim_vision.specs.Joining.{is_bit, is_missed, is_set, refusal_of};
-ghost use Rattle.sim_vision.specs.Vision.{all_counts, cells_in, explored_with, part_of};
+ghost use Rattle.sim_vision.specs.{Joining.is_bit, Joining.is_missed, Joining.is_set, Joining.refusal_of, Told.explored_file, Vision.all_counts};
+ghost use Rattle.{sim_vision.specs.Vision.cells_in, sim_vision.specs.Vision.explored_with, sim_vision.specs.Vision.part_of, std.specs.List.zip};
+ghost use Rattle.std.specs.Prelude.{◌*◌, ◌∷◌, ◌≡◌, ◌≤◌, ◌⊎◌, All, Err, false, IfErr, IfOk, length, List, map, None, OnErr, OnOk, Some, take, true, ℕ};
 ghost use Rattle.sim_vision.specs.declared.fault.SightFault.TheVariants as faults;
 
 use crate::disc::Disc;

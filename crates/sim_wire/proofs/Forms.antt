@@ -1,12 +1,11 @@
 -- The frame of a message has the form of a frame.
-use Rattle.std.proofs.lemmas.Bool.{eq-eqb}
-use Rattle.sim_wire.proofs.{Common.UpFits, Common.UpOf, Common.Walk, Common.◌∙◌, Standing.short_down, Standing.short_up, Standing.size_back}
-use Rattle.sim_wire.proofs.Common.{append_assoc, arith, Attack, byte_at, Command, command_bytes, command_form, CommandFits, Delete, down_body}
-use Rattle.sim_wire.proofs.Common.{down_command_form, down_form, down_tag_form, DownFits, DownOf, ids_bytes, ids_form, IdsFit, IsDownFrame, IsUpFrame}
-use Rattle.sim_wire.proofs.Common.{kind_form, le-ltb, length-append, length-u16_bytes, length-u32_bytes, Place, point_bytes, read_and, Resign, state_form}
-use Rattle.sim_wire.proofs.Common.{state_limit, Stop, sym, Train, u16_back, u16_bytes, u32_back, u32_bytes, up_body, up_command_form, up_form, up_tag_form}
-use Rattle.sim_wire.proofs.Common.{◌≡◌, ℕ, ◌+◌, ◌*◌, ◌^◌, ◌<◌, ◌≤◌, true, false, eqb, ltb, List, [], ◌∷◌, ◌++◌, length, flat_map, refl, ap, append-nil}
-use Rattle.sim_wire.proofs.Lengths.{length_behind, length_of_numbers, length_of_point, length_of_turn}
+use Rattle.sim_wire.proofs.Common.{[], ◌*◌, ◌++◌, ◌+◌, ◌<◌, ◌^◌, ◌∙◌, ◌∷◌, ◌≡◌, ◌≤◌, ap, append-nil, append_assoc, arith, Attack, byte_at, Command}
+use Rattle.sim_wire.proofs.Common.{command_bytes, command_form, CommandFits, Delete, down_body, down_command_form, down_form, down_tag_form, DownFits, DownOf}
+use Rattle.sim_wire.proofs.Common.{eqb, false, flat_map, ids_bytes, ids_form, IdsFit, IsDownFrame, IsUpFrame, kind_form, le-ltb, length, length-append}
+use Rattle.sim_wire.proofs.Common.{length-u16_bytes, length-u32_bytes, List, ltb, Place, point_bytes, read_and, refl, Resign, state_form, state_limit, Stop}
+use Rattle.sim_wire.proofs.Common.{sym, Train, true, u16_back, u16_bytes, u32_back, u32_bytes, up_body, up_command_form, up_form, up_tag_form, UpFits, UpOf}
+use Rattle.sim_wire.proofs.{Common.Walk, Common.ℕ, Lengths.length_behind, Lengths.length_of_numbers, Lengths.length_of_point, Lengths.length_of_turn}
+use Rattle.{sim_wire.proofs.Standing.short_down, sim_wire.proofs.Standing.short_up, sim_wire.proofs.Standing.size_back, std.proofs.lemmas.Bool.eq-eqb}
 use Rattle.sim_plain.specs.declared.message.DownOf.TheVariants as down
 use Rattle.sim_plain.specs.declared.message.UpOf.TheVariants as up
 

@@ -1,10 +1,9 @@
 //! What a client hears.
 
 ghost use Rattle.{sim_base.specs.Validity.IsValid, sim_base.specs.declared.state.State.State as AnyState, sim_board.specs.BoardWords.AreKept};
-ghost use Rattle.std.specs.Prelude.{◌≡◌, true, OnOk, IsSome, IsOk, None, Ok, Option};
-ghost use Rattle.sim_client.specs.ClientWords.{Answers, Begins, Builds, Hears, is_idle, IsSound, Keeps, life, LoadsAt, NeedsNoMemory, setup_in};
-ghost use Rattle.sim_client.specs.{ClientWords.state_of, ClientWords.systems, ClientWords.Waits, Lives.begins, Lives.hears, Lives.Joining, Lives.loads};
-ghost use Rattle.sim_client.specs.{Lives.refused};
+ghost use Rattle.sim_client.specs.ClientWords.{Answers, Begins, Builds, Hears, is_idle, IsSound, Keeps, life, LoadsAt, NeedsNoMemory, setup_in, state_of};
+ghost use Rattle.sim_client.specs.{ClientWords.systems, ClientWords.Waits, Lives.begins, Lives.hears, Lives.Joining, Lives.loads, Lives.refused};
+ghost use Rattle.std.specs.Prelude.{◌≡◌, IsOk, IsSome, None, Ok, OnOk, Option, true};
 
 use super::Client;
 use crate::did::{Did, silent};

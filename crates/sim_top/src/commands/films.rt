@@ -1,10 +1,9 @@
 //! The film of a match.
 
-ghost use Rattle.std.specs.Prelude.{◌≤◌, Some};
-ghost use Rattle.sim_top.specs.{Commands.IsAnswerTo, Commands.shelved, Making.IsMade, Making.status_made, Outcome.printed as printed_as};
-ghost use Rattle.sim_top.specs.{Common.film_text as text_of_film, Common.last_state, Common.systems_of, Words.to_film};
-ghost use Rattle.sim_top.specs.{Returning.RigsCameBack, Rigs.AreEight, Rigs.HasPlayed};
 ghost use Rattle.sim_play.specs.Playing.{MayBegin};
+ghost use Rattle.sim_top.specs.{Commands.IsAnswerTo, Commands.shelved, Common.film_text as text_of_film, Common.last_state, Common.systems_of, Making.IsMade};
+ghost use Rattle.sim_top.specs.{Making.status_made, Outcome.printed as printed_as, Returning.RigsCameBack, Rigs.AreEight, Rigs.HasPlayed, Words.to_film};
+ghost use Rattle.std.specs.Prelude.{◌≤◌, Some};
 
 use super::{Answer, Equipment, shown};
 use crate::inputs::read_match;

@@ -1,10 +1,9 @@
 //! A match that is played with a second client, who joins at a turn.
 
-ghost use Rattle.std.specs.Prelude.{◌≤◌, Some};
-ghost use Rattle.sim_top.specs.{Commands.IsAnswerTo, Commands.shelved, Common.after, Common.HaveKinds, Common.own_turns, Common.systems_of};
-ghost use Rattle.sim_top.specs.{Making.IsMade, Making.status_made, Outcome.rejoin_outcome, Returning.RigsCameBack, Rigs.AreEight, Rigs.HasPlayed};
-ghost use Rattle.sim_top.specs.Words.{to_rejoin};
 ghost use Rattle.sim_play.specs.Playing.{MayReach};
+ghost use Rattle.sim_top.specs.{Commands.IsAnswerTo, Commands.shelved, Common.after, Common.HaveKinds, Common.own_turns, Common.systems_of, Making.IsMade};
+ghost use Rattle.sim_top.specs.{Making.status_made, Outcome.rejoin_outcome, Returning.RigsCameBack, Rigs.AreEight, Rigs.HasPlayed, Words.to_rejoin};
+ghost use Rattle.std.specs.Prelude.{◌≤◌, Some};
 
 use super::storing::reached;
 use super::{Answer, Equipment, shown};

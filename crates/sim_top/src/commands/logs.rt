@@ -1,12 +1,10 @@
 //! The log of a match, which is stored in a file; and one that is checked, by playing the match as it says.
 
-ghost use Rattle.{sim_replay.specs.Logs.IsOfTurns, sim_top.specs.Common.text_of_log};
-ghost use Rattle.std.specs.Prelude.{◌≡◌, ◌^◌, ◌<◌, length, IfOk, Some, string_bytes, codes};
-ghost use Rattle.sim_top.specs.{Commands.IsAnswerTo, Commands.shelved, Returning.RigsCameBack, Rigs.AreEight, Rigs.HasPlayed, Words.to_check, Words.to_log};
+ghost use Rattle.{sim_play.specs.Playing.MayBegin, sim_replay.specs.Logs.IsOfTurns, sim_top.specs.Commands.IsAnswerTo, sim_top.specs.Commands.shelved};
+ghost use Rattle.sim_top.specs.Common.{IsLog, last_state, log_after as log_of_turns, logged_line, match_turns, state_after, systems_of, text_of_log};
 ghost use Rattle.sim_top.specs.{Making.IsMade, Making.IsMadeOf, Making.outcome_made, Making.status_made, Outcome.check_by, Outcome.check_outcome};
-ghost use Rattle.sim_top.specs.{Outcome.logged_as};
-ghost use Rattle.sim_top.specs.Common.{IsLog, last_state, log_after as log_of_turns, logged_line, match_turns, state_after, systems_of};
-ghost use Rattle.sim_play.specs.Playing.{MayBegin};
+ghost use Rattle.sim_top.specs.{Outcome.logged_as, Returning.RigsCameBack, Rigs.AreEight, Rigs.HasPlayed, Words.to_check, Words.to_log};
+ghost use Rattle.std.specs.Prelude.{◌<◌, ◌^◌, ◌≡◌, codes, IfOk, length, Some, string_bytes};
 
 use super::{Answer, Equipment, Saved};
 use crate::inputs::{read_log, read_match};

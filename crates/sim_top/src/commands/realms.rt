@@ -1,10 +1,9 @@
 //! The territories of a turn of a match.
 
-ghost use Rattle.std.specs.Prelude.{◌≤◌, Some};
-ghost use Rattle.sim_top.specs.{Commands.IsAnswerTo, Commands.shelved, Common.after, Common.own_turns, Common.systems_of};
-ghost use Rattle.sim_top.specs.{Making.IsMadeAs, Making.status_made, Outcome.IsRealmOutcome, Returning.RigsCameBack, Rigs.AreEight, Rigs.HasPlayed};
-ghost use Rattle.sim_top.specs.Words.{to_realm};
 ghost use Rattle.sim_play.specs.Playing.{MayReach};
+ghost use Rattle.sim_top.specs.{Commands.IsAnswerTo, Commands.shelved, Common.after, Common.own_turns, Common.systems_of, Making.IsMadeAs, Making.status_made};
+ghost use Rattle.sim_top.specs.{Outcome.IsRealmOutcome, Returning.RigsCameBack, Rigs.AreEight, Rigs.HasPlayed, Words.to_realm};
+ghost use Rattle.std.specs.Prelude.{◌≤◌, Some};
 
 use super::storing::reached;
 use super::{Answer, Equipment, shown};

@@ -1,12 +1,11 @@
 //! What the players of a match see at a turn, and have explored: from its first state on, or from a stored state on with the
 //! explored cells of a file.
 
-ghost use Rattle.std.specs.Prelude.{◌≡◌, Some, string_bytes};
-ghost use Rattle.sim_top.specs.{Commands.IsAnswerTo, Commands.shelved, Making.IsMade, Making.IsMadeOf, Making.IsMadeAs, Making.status_made};
-ghost use Rattle.sim_top.specs.{Outcome.IsSeenFrom, Outcome.seen_with, Outcome.sight_outcome, Rigs.AreEight, Rigs.HasPlayed, Words.to_resight, Words.to_sight};
-ghost use Rattle.sim_top.specs.Common.{after, end_from, own_turns, systems_of};
-ghost use Rattle.sim_top.specs.Returning.{RigsCameBack};
 ghost use Rattle.sim_play.specs.Playing.{MayReach, MayResume};
+ghost use Rattle.sim_top.specs.{Commands.IsAnswerTo, Commands.shelved, Common.after, Common.end_from, Common.own_turns, Common.systems_of, Making.IsMade};
+ghost use Rattle.sim_top.specs.{Making.IsMadeAs, Making.IsMadeOf, Making.status_made, Outcome.IsSeenFrom, Outcome.seen_with, Outcome.sight_outcome};
+ghost use Rattle.sim_top.specs.{Returning.RigsCameBack, Rigs.AreEight, Rigs.HasPlayed, Words.to_resight, Words.to_sight};
+ghost use Rattle.std.specs.Prelude.{◌≡◌, Some, string_bytes};
 
 use super::storing::reached;
 use super::{Answer, Equipment, Saved, shown};

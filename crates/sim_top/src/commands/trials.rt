@@ -1,10 +1,9 @@
 //! The match of a trial, which is made of three numbers and read from no file.
 
-ghost use Rattle.std.specs.Prelude.{◌≡◌, List, IfOk, OnErr, IsErr, Some, string_bytes, Option};
-ghost use Rattle.sim_top.specs.{Commands.IsAnswerTo, Commands.Shelved, Making.IsMade, Making.status_made, Outcome.trial_outcome, Rigs.AreEight, Rigs.HasPlayed};
-ghost use Rattle.sim_top.specs.{Returning.RigsCameBack, Words.to_try};
+ghost use Rattle.{sim_play.specs.Playing.MayBegin, sim_top.specs.Commands.IsAnswerTo, sim_top.specs.Commands.Shelved};
 ghost use Rattle.sim_top.specs.Common.{after, File, IsTrial, IsValid, own_turns, systems_of, trial_line};
-ghost use Rattle.sim_play.specs.Playing.{MayBegin};
+ghost use Rattle.sim_top.specs.{Making.IsMade, Making.status_made, Outcome.trial_outcome, Returning.RigsCameBack, Rigs.AreEight, Rigs.HasPlayed, Words.to_try};
+ghost use Rattle.std.specs.Prelude.{◌≡◌, IfOk, IsErr, List, OnErr, Option, Some, string_bytes};
 
 use super::{Answer, Equipment, shown};
 use crate::inputs::trial_match;

@@ -1,7 +1,6 @@
 use Rattle.{sim_base.specs.Aim.aimed, sim_plans.proofs.AimPlan.aim_plan_is, sim_plans.proofs.Answered.answered, sim_plans.specs.Plans.aim_plan}
-use Rattle.sim_attack.proofs.aim.aim_changes.Goals as goal
 
-pub returns : goal.returns
+pub returns : Rattle.sim_attack.proofs.aim.aim_changes.Goals.returns
 returns g c =
     let setup = c.args.scene.now.setup.now in
     let state = c.args.scene.now.state.now in

@@ -1,9 +1,8 @@
 -- Each row is found by its id.
 use Rattle.{sim_base.specs.Rows.id_of, sim_base.specs.declared.state.Row.Row, std.proofs.lemmas.List.get_or_default, sim_base.proofs.RowPlaces.row_there}
 use Rattle.std.proofs.Common.{◌≡◌, ◌<◌, List, length, get_or, ap, arith, sym, ◌∙◌}
-use Rattle.sim_attack.proofs.aim.listed_aims.Goals as goal
 
-pub push_aim-requires-clause-found : goal.push_aim-requires-clause-found
+pub push_aim-requires-clause-found : Rattle.sim_attack.proofs.aim.listed_aims.Goals.push_aim-requires-clause-found
 push_aim-requires-clause-found g c =
     let rows = c.args.scene.now.state.now.rows in
     let n = c.loop-row.row-index in

@@ -3,9 +3,8 @@ use Rattle.{sim_attack.proofs.Sums.fought_lands, sim_attack.proofs.Sums.hit_at, 
 use Rattle.std.proofs.Common.{◌≡◌, ℕ, ◌+◌, ◌<◌, true, List, [], ◌∷◌, ◌++◌, length, get_or, set, Some, ap, arith, rules, subst, sym, ◌∙◌}
 use Rattle.sim_base.specs.{Filters.is_near, Hit.Hit, Hit.lands, Hit.resist_of, Hit.taken, Numbers.next_word, Rows.arms_of, Rows.row_of, declared.state.Row.Row}
 use Rattle.sim_plans.specs.Found.{found}
-use Rattle.sim_attack.proofs.hit.fight.Goals as goal
 
-pub returns-then-lands-clause-damage : goal.returns-then-lands-clause-damage
+pub returns-then-lands-clause-damage : Rattle.sim_attack.proofs.hit.fight.Goals.returns-then-lands-clause-damage
 returns-then-lands-clause-damage c =
     λ hits are_taken.
     let setup = c.args.setup.now in

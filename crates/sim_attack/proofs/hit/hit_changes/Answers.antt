@@ -1,7 +1,6 @@
 use Rattle.{sim_base.specs.Hit.hit, sim_plans.proofs.Answered.answered, sim_plans.proofs.HitPlan.hit_plan_is, sim_plans.specs.Plans.hit_plan}
-use Rattle.sim_attack.proofs.hit.hit_changes.Goals as goal
 
-pub returns : goal.returns
+pub returns : Rattle.sim_attack.proofs.hit.hit_changes.Goals.returns
 returns g c =
     let setup = c.args.scene.now.setup.now in
     let state = c.args.scene.now.state.now in

@@ -1,4 +1,2 @@
-use Rattle.sim_base.proofs.decimal.+push_digits.Given as goal
-
-abbrev pub decreases-push_digits : goal.decreases-push_digits
+abbrev pub decreases-push_digits : Rattle.sim_base.proofs.decimal.+push_digits.Given.decreases-push_digits
 decreases-push_digits l = l.n

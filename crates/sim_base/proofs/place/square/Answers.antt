@@ -1,8 +1,7 @@
 use Rattle.std.proofs.{Common.◌≤◌, Common.arith, lemmas.Int.ints, lemmas.Nat.mul-le}
-use Rattle.sim_base.proofs.place.square.Goals as goal
 
 -- on the largest ground two raws differ by less than 256 metres
-pub overflow_add-result : goal.overflow_add-result
+pub overflow_add-result : Rattle.sim_base.proofs.place.square.Goals.overflow_add-result
 overflow_add-result c =
     let x : c.gap-x.result ≤ 16777215 = omega (arith, ints) in
     let z : c.gap-z.result ≤ 16777215 = omega (arith, ints) in

@@ -1,9 +1,8 @@
 -- The old text still stands before the metres and the point, whatever part of the five digits was appended to them.
 use Rattle.std.{proofs.Common.◌≡◌, proofs.Common.length, proofs.Common.take, proofs.Common.rules, specs.Prelude.string_bytes}
 use Rattle.sim_base.proofs.AppendedTexts.{take-appended_more}
-use Rattle.sim_base.proofs.print.push_magnitude.Goals as goal
 
-pub returns-in_err-push_five-clause-err : goal.returns-in_err-push_five-clause-err
+pub returns-in_err-push_five-clause-err : Rattle.sim_base.proofs.print.push_magnitude.Goals.returns-in_err-push_five-clause-err
 returns-in_err-push_five-clause-err c =
     let pointed : take (length (string_bytes c.push_digits.new.out)) (string_bytes c.push_five.new.out) ≡ string_bytes c.push_digits.new.out =
     take-appended_more _ _ _ _ c.in_ok-push_str.ensures.bytes c.in_err-push_five.ensures.err in

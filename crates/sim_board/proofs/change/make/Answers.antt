@@ -1,7 +1,6 @@
 use Rattle.sim_board.proofs.Common.{List, refl, ap, applied, ap₂, Row, State, ◌∙◌}
-use Rattle.sim_board.proofs.change.make.Goals as goal
 
-pub returns : goal.returns
+pub returns : Rattle.sim_board.proofs.change.make.Goals.returns
 returns c =
     let setup = c.args.setup.now in
     let over : State → List Row → State = λ s rows. record s { rows = rows } in

@@ -1,9 +1,8 @@
 -- One more is released.
 use Rattle.sim_board.proofs.Common.{ℕ, map, get_or, ap, arith, id_of, row_released, sym, ◌∙◌}
 use Rattle.sim_board.proofs.Letting.{ids_stay, released_next}
-use Rattle.sim_board.proofs.edit.release_rows.Goals as goal
 
-pub loop-id-preserved : goal.loop-id-preserved
+pub loop-id-preserved : Rattle.sim_board.proofs.edit.release_rows.Goals.loop-id-preserved
 loop-id-preserved c =
     let id : ℕ = get_or c.args.ids.now c.loop-id.id-index 0 in (
       c.release_row-near.ensures ∙ ap (λ rows. row_released rows id) c.loop-id.invariant.0 ∙

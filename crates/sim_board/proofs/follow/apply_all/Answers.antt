@@ -1,9 +1,7 @@
 -- Behind the last change none is left. One for which there was no memory ends it. No system was built.
-use Rattle.sim_board.proofs.Common.{ap, applied_all, length, sym, ◌∙◌}
-use Rattle.sim_board.proofs.Keeping.{kept_on}
+use Rattle.sim_board.proofs.{Common.◌∙◌, Common.ap, Common.applied_all, Common.length, Common.sym, Keeping.kept_on}
+use Rattle.std.proofs.{Common.arith, lemmas.List.drop_all, lemmas.Result.err_from_is_err_and}
 use Rattle.sim_board.proofs.follow.apply_all.Goals as goal
-use Rattle.std.proofs.lemmas.Result.{err_from_is_err_and}
-use Rattle.std.proofs.{Common.arith, lemmas.List.drop_all}
 
 pub returns-in_err-make : goal.returns-in_err-make
 returns-in_err-make g c =

@@ -1,8 +1,7 @@
 -- Those that are made lead on to the rows as they are.
 use Rattle.sim_board.{proofs.Common.drop, proofs.Common.◌≡◌, specs.Leading.LeadsOn}
-use Rattle.sim_board.proofs.quiet.keep_aims.Given as goal
 
-abbrev pub invariant-loop-change : goal.invariant-loop-change
+abbrev pub invariant-loop-change : Rattle.sim_board.proofs.quiet.keep_aims.Given.invariant-loop-change
 invariant-loop-change l =
     record {
       count : l.kept ≡ l.change-index;

@@ -1,5 +1,4 @@
 use Rattle.sim_board.proofs.Common.{◌≡◌, map, take, fact_of}
-use Rattle.sim_board.proofs.row.told.Given as goal
 
-abbrev pub invariant-loop-row : goal.invariant-loop-row
+abbrev pub invariant-loop-row : Rattle.sim_board.proofs.row.told.Given.invariant-loop-row
 invariant-loop-row l = l.facts ≡ map (fact_of l.setup) (take l.row-index l.state.rows)

@@ -1,9 +1,8 @@
 -- The empty text has no bytes.
 use Rattle.std.proofs.{Common.length, Common.Ok, Common.ap, Common.sym, Common.◌∙◌, lemmas.Bool.eqb-true, lemmas.List.nil_from_length}
 use Rattle.hex.specs.Hex.{decode_of, decode_pairs}
-use Rattle.sim_bytes.proofs.hexadecimal.read_hex.Goals as goal
 
-pub returns-then-is_empty-clause-value : goal.returns-then-is_empty-clause-value
+pub returns-then-is_empty-clause-value : Rattle.sim_bytes.proofs.hexadecimal.read_hex.Goals.returns-then-is_empty-clause-value
 unfolding decode_pairs
 returns-then-is_empty-clause-value c =
     let none = nil_from_length c.args.text.now (eqb-true (length c.args.text.now) 0 (sym c.is_empty.ensures ∙ c.if-is_empty.true)) in

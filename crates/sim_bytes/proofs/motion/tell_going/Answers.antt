@@ -1,9 +1,7 @@
 -- Six pieces, one behind the other.
-use Rattle.{sim_bytes.specs.Telling.Tells, std.proofs.Common.OnOk, std.proofs.Common.subst}
-use Rattle.sim_bytes.proofs.Ways.{first, motion_pieces}
-use Rattle.sim_bytes.proofs.motion.tell_going.Goals as goal
+use Rattle.{sim_bytes.proofs.Ways.first, sim_bytes.proofs.Ways.motion_pieces, sim_bytes.specs.Telling.Tells, std.proofs.Common.OnOk, std.proofs.Common.subst}
 
-pub returns : goal.returns
+pub returns : Rattle.sim_bytes.proofs.motion.tell_going.Goals.returns
 returns g c =
     let holds = g.K.ByteSink.holds in
     subst (λ bytes. OnOk c.tell_stored.result (Tells holds c.args.out.now c.tell_stored.new.out bytes))

@@ -1,9 +1,8 @@
 -- A row counts where it has the part.
 use Rattle.std.proofs.Common.{arith, ◌∙◌}
 use Rattle.sim_bytes.proofs.{Steps.count_none, Steps.count_some, section.count.Goals.else-is_in, section.count.Goals.then-is_in}
-use Rattle.sim_bytes.proofs.section.count.Goals as goal
 
-pub loop-row-preserved : goal.loop-row-preserved
+pub loop-row-preserved : Rattle.sim_bytes.proofs.section.count.Goals.loop-row-preserved
 loop-row-preserved g c = elim c.if-is_in.branch [
   | then-is_in w ↦ record {
     found = w.found-is ∙ count_some g.R.RowForm.in_row c.args.rows.now c.loop-row.row-index c.loop-row.found c.row-item.result c.loop-row-test.true

@@ -1,9 +1,8 @@
 -- A row is told where it has the part.
 use Rattle.std.proofs.Common.{subst}
 use Rattle.sim_bytes.proofs.{Steps.bytes_none, Steps.bytes_some, section.tell_rows.Goals.in-Some+in_ok-tell, section.tell_rows.Goals.in_default}
-use Rattle.sim_bytes.proofs.section.tell_rows.Goals as goal
 
-pub loop-row-preserved : goal.loop-row-preserved
+pub loop-row-preserved : Rattle.sim_bytes.proofs.section.tell_rows.Goals.loop-row-preserved
 loop-row-preserved g c = elim c.match-of.branch [
   | in-Some+in_ok-tell w ↦ λ about told h. rw w.out-is (subst (g.K.ByteSink.holds w.tell.new.out about)
       (bytes_some g.R.RowForm.spelled g.R.RowForm.in_row c.args.rows.now c.loop-row.row-index c.row-item.result w.in-Some.found told c.loop-row-test.true

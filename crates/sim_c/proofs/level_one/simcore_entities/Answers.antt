@@ -2,9 +2,8 @@
 use Rattle.sim_c.{proofs.Mapped.mapped_cause, proofs.Mapped.mapped_is, specs.Gives.mapped}
 use Rattle.std.proofs.{Common.rules, Common.w32, lemmas.Int.to_z-of_z}
 use mir.Val.{SFits}
-use Rattle.sim_c.proofs.level_one.simcore_entities.Goals as goal
 
-pub returns : goal.returns
+pub returns : Rattle.sim_c.proofs.level_one.simcore_entities.Goals.returns
 returns c =
     let fits : SFits w32 c.give_entities.result = search rules in
     record {

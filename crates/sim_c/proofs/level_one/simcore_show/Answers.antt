@@ -2,9 +2,8 @@
 use Rattle.sim_c.{proofs.Mapped.mapped_cause, proofs.Mapped.mapped_is, specs.Gives.mapped}
 use Rattle.std.{proofs.Common.rules, proofs.Common.w32, proofs.lemmas.Int.to_z-of_z, specs.Prelude.string_bytes}
 use mir.Val.{SFits}
-use Rattle.sim_c.proofs.level_one.simcore_show.Goals as goal
 
-pub returns : goal.returns
+pub returns : Rattle.sim_c.proofs.level_one.simcore_show.Goals.returns
 returns c =
     let fits : SFits w32 c.give_text.result = search rules in
     record {

@@ -2,9 +2,8 @@
 use Rattle.sim_c.{proofs.Looked.looked_is, proofs.Looked.looked_none, specs.GivesHeld.looked}
 use Rattle.std.proofs.{Common.rules, Common.w32, lemmas.Int.to_z-of_z}
 use mir.Val.{SFits}
-use Rattle.sim_c.proofs.looks.client_entities.Goals as goal
 
-pub returns : goal.returns
+pub returns : Rattle.sim_c.proofs.looks.client_entities.Goals.returns
 returns c =
     let fits : SFits w32 c.give_items.result = search rules in
     record {

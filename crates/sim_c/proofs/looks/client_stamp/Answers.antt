@@ -1,11 +1,9 @@
 -- What is answered is the stamp of the client, for which no memory is wanted.
-use Rattle.std.proofs.{Common.refl, Common.rules, Common.subst, Common.sym, Common.w32, lemmas.Int.to_z-of_z}
-use Rattle.std.specs.Prelude.{ℤ, Ok}
+use Rattle.{sim_c.proofs.Looked.stamped_none, sim_c.specs.Gives.stamp, sim_c.specs.GivesHeld.GivesStamp, std.proofs.Common.refl}
+use Rattle.std.{proofs.Common.rules, proofs.Common.subst, proofs.Common.sym, proofs.Common.w32, proofs.lemmas.Int.to_z-of_z, specs.Prelude.Ok, specs.Prelude.ℤ}
 use mir.Val.{SFits}
-use Rattle.sim_c.{proofs.Looked.stamped_none, specs.Gives.stamp, specs.GivesHeld.GivesStamp}
-use Rattle.sim_c.proofs.looks.client_stamp.Goals as goal
 
-pub returns : goal.returns
+pub returns : Rattle.sim_c.proofs.looks.client_stamp.Goals.returns
 returns c =
     let fits : SFits w32 c.give_held_stamp.result = search rules in
     let old = stamp c.args.digest.now c.args.turn.now in

@@ -1,11 +1,9 @@
 -- What is answered is the text of the client's state, in the words of its definition.
 use Rattle.sim_c.{proofs.Looked.looked_is, proofs.Looked.looked_none, specs.GivesHeld.looked}
-use Rattle.std.proofs.{Common.rules, Common.w32, lemmas.Int.to_z-of_z}
-use Rattle.std.specs.Prelude.{string_bytes}
+use Rattle.std.{proofs.Common.rules, proofs.Common.w32, proofs.lemmas.Int.to_z-of_z, specs.Prelude.string_bytes}
 use mir.Val.{SFits}
-use Rattle.sim_c.proofs.looks.client_text.Goals as goal
 
-pub returns : goal.returns
+pub returns : Rattle.sim_c.proofs.looks.client_text.Goals.returns
 returns c =
     let fits : SFits w32 c.give_shown.result = search rules in
     record {

@@ -1,9 +1,8 @@
 -- What is answered is the answer of the call below.
 use Rattle.std.proofs.{Common.rules, Common.w32, lemmas.Int.to_z-of_z}
 use mir.Val.{SFits}
-use Rattle.sim_c.proofs.running.simcore_run.Goals as goal
 
-pub returns : goal.returns
+pub returns : Rattle.sim_c.proofs.running.simcore_run.Goals.returns
 returns c =
     let fits : SFits w32 c.give_run.result = search rules in
     record {

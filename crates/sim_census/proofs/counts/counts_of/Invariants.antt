@@ -1,8 +1,7 @@
 use Rattle.std.proofs.Common.{◌≡◌, ℕ, ◌<◌, length, get_or}
 use Rattle.sim_system.specs.Answers.{population_among}
-use Rattle.sim_census.proofs.counts.counts_of.Given as goal
 
-abbrev pub invariant-loop-owner : goal.invariant-loop-owner
+abbrev pub invariant-loop-owner : Rattle.sim_census.proofs.counts.counts_of.Given.invariant-loop-owner
 invariant-loop-owner l = record {
   full : length l.counts ≡ 9;
   counted : (k : ℕ) → k < l.owner → get_or l.counts k 0 ≡ population_among l.facts k;

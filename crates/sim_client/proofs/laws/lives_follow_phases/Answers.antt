@@ -1,7 +1,6 @@
 use Rattle.sim_client.proofs.Following.{bending_follows, hearing_follows, joining_follows, ordering_follows, playing_follows, starting_follows}
-use Rattle.sim_client.proofs.laws.lives_follow_phases.Goals as goal
 
-pub returns : goal.returns
+pub returns : Rattle.sim_client.proofs.laws.lives_follow_phases.Goals.returns
 returns c =
     record {
       starts = starting_follows;

@@ -2,9 +2,8 @@
 use Rattle.std.proofs.lemmas.List.Elements.{All-append, All-cons}
 use Rattle.sim_client.proofs.Common.{[], ◌∷◌, ◌++◌, nat_lt, All-nil, IsOrderOf, known_in, sym, ◌∙◌}
 use Rattle.sim_client.proofs.Knowing.{player_of_test, players_put}
-use Rattle.sim_client.proofs.playing.learn.Goals as goal
 
-pub returns-clause-players : goal.returns-clause-players
+pub returns-clause-players : Rattle.sim_client.proofs.playing.learn.Goals.returns-clause-players
 returns-clause-players c =
     let setup = c.args.setup.now in
     let old = c.args.seat.now.known in

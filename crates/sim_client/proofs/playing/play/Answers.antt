@@ -1,8 +1,7 @@
 -- What is told of a turn leaves what is known.
 use Rattle.sim_client.proofs.Common.{AreByPlayers, refl, rules, subst, sym}
-use Rattle.sim_client.proofs.playing.play.Goals as goal
 
-pub returns : goal.returns
+pub returns : Rattle.sim_client.proofs.playing.play.Goals.returns
 returns g c =
     let turned = c.in_ok-play_next.ensures.playing in
     record {

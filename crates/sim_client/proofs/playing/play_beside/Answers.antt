@@ -1,8 +1,7 @@
 -- What is told of a turn leaves what is known.
 use Rattle.sim_client.proofs.Common.{AreByPlayers, refl, rules, subst, sym}
-use Rattle.sim_client.proofs.playing.play_beside.Goals as goal
 
-pub returns-clause-plays : goal.returns-clause-plays
+pub returns-clause-plays : Rattle.sim_client.proofs.playing.play_beside.Goals.returns-clause-plays
 returns-clause-plays g c =
     let turned = c.in_ok-play_next.ensures.playing in
     record {

@@ -1,9 +1,8 @@
 -- The commands of the turn are known no more.
 use Rattle.sim_client.proofs.Common.{◌+◌, [], All-nil, IsOrderOf, IsValid, Setup, subst, ◌∙◌}
 use Rattle.sim_client.proofs.Knowing.{players_put}
-use Rattle.sim_client.proofs.playing.play_next.Goals as goal
 
-pub returns-clause-playing : goal.returns-clause-playing
+pub returns-clause-playing : Rattle.sim_client.proofs.playing.play_next.Goals.returns-clause-playing
 returns-clause-playing g c =
     let setup = c.args.setup.now in
     let before = c.requires.playing in

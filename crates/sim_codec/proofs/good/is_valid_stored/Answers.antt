@@ -1,8 +1,7 @@
 -- The rows that were tested are those of a valid state.
 use Rattle.sim_codec.proofs.{Common.IsTrue, Common.IsValid, Common.State, Common.subst, GoodRows.valid_of}
-use Rattle.sim_codec.proofs.good.is_valid_stored.Goals as goal
 
-pub returns-then-is_valid_clock : goal.returns-then-is_valid_clock
+pub returns-then-is_valid_clock : Rattle.sim_codec.proofs.good.is_valid_stored.Goals.returns-then-is_valid_clock
 returns-then-is_valid_clock c =
     let inside : State = record { turn = c.stored.inside.turn; next = c.stored.inside.next; word = c.stored.inside.word; rows = c.stored.inside.rows } in
     let answer = c.are_valid.result in

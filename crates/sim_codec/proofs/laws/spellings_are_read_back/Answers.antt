@@ -1,9 +1,8 @@
 -- Each spelling stands for its state.
 use Rattle.sim_codec.proofs.Common.{refl, inl, inr, old_spelling, spelling}
 use Rattle.sim_codec.proofs.Standing.{old_spelling_read, spelling_read, stands_head}
-use Rattle.sim_codec.proofs.laws.spellings_are_read_back.Goals as goal
 
-pub returns : goal.returns
+pub returns : Rattle.sim_codec.proofs.laws.spellings_are_read_back.Goals.returns
 returns c = record {
   head = λ setup state is valid. stands_head setup (spelling setup state) state is.id (record { valid = valid; spelled = inl refl });
   state = spelling_read;

@@ -1,7 +1,6 @@
 -- The hasher holds what it was told.
 use Rattle.sim_codec.proofs.Common.{[], quick}
-use Rattle.sim_codec.proofs.report.quick.Goals as goal
 
-pub returns : goal.returns
+pub returns : Rattle.sim_codec.proofs.report.quick.Goals.returns
 unfolding quick
 returns c = c.finalize.ensures _ (c.in-Ok.ensures [] [] c.new-digesting.ensures)

@@ -1,8 +1,7 @@
 -- Seven pieces, one behind the other.
-use Rattle.sim_codec.proofs.spelling.tell_sections.Goals as goal
 use Rattle.sim_bytes.proofs.Ways.{first}
 
-pub returns : goal.returns
+pub returns : Rattle.sim_codec.proofs.spelling.tell_sections.Goals.returns
 returns g c =
     first g.K.ByteSink.holds _ _ _ _ _ _ c.in_ok-tell_section.ensures
     (first g.K.ByteSink.holds _ _ _ _ _ _ c.in_ok-tell_section-2.ensures

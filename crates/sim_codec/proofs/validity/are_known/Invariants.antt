@@ -1,6 +1,5 @@
 -- The rows so far passed.
 use Rattle.sim_codec.proofs.Common.{take, All, IsKnownRow}
-use Rattle.sim_codec.proofs.validity.are_known.Given as goal
 
-abbrev pub invariant-loop-row : goal.invariant-loop-row
+abbrev pub invariant-loop-row : Rattle.sim_codec.proofs.validity.are_known.Given.invariant-loop-row
 invariant-loop-row l = All (IsKnownRow 1 l.setup l.fn.rows) (take l.row-index l.rows)

@@ -1,8 +1,7 @@
 -- Of an entity of which both lists begin with the same row all parts are the same.
 use Rattle.sim_diff.proofs.{Common.arith, Parts.same-no_first, Walk.same_first-bits}
-use Rattle.sim_diff.proofs.merge.next_difference.Goals as goal
 
-pub returns-then-have_same_first : goal.returns-then-have_same_first
+pub returns-then-have_same_first : Rattle.sim_diff.proofs.merge.next_difference.Goals.returns-then-have_same_first
 returns-then-have_same_first c =
     let left = c.args.left.now in
     let right = c.args.right.now in

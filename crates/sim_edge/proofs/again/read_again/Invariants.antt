@@ -2,9 +2,8 @@
 use Rattle.std.proofs.Common.{◌≡◌, ℕ, ◌-◌, List, length}
 use Rattle.std.specs.{Io.KnownBytes.Keeps, Prelude.Result, declared.io.Error.Error}
 use Rattle.sim_edge.specs.{Again.AnswersIn, Again.read_call, declared.again.TheConstants.TRIES}
-use Rattle.sim_edge.proofs.again.read_again.Given as goal
 
-abbrev pub invariant-loop : goal.invariant-loop
+abbrev pub invariant-loop : Rattle.sim_edge.proofs.again.read_again.Given.invariant-loop
 invariant-loop g l = record {
   room : length l.into ≡ length l.fn.into;
   kept : Keeps (g.R.Readable.left l.fn.file) (g.R.Readable.left l.file);

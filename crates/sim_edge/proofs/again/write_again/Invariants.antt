@@ -1,9 +1,8 @@
 -- A write that is interrupted adds nothing to what is held, and one try fewer is left.
 use Rattle.std.{proofs.Common.ℕ, proofs.Common.◌-◌, specs.Io.KnownBytes.Keeps, specs.Prelude.Result, specs.declared.io.Error.Error}
 use Rattle.sim_edge.specs.{Again.AnswersIn, Again.write_call, declared.again.TheConstants.TRIES}
-use Rattle.sim_edge.proofs.again.write_again.Given as goal
 
-abbrev pub invariant-loop : goal.invariant-loop
+abbrev pub invariant-loop : Rattle.sim_edge.proofs.again.write_again.Given.invariant-loop
 invariant-loop g l = record {
   kept : Keeps (g.W.Writable.holds l.fn.file) (g.W.Writable.holds l.file);
   tried : (answer : Result ℕ Error) (file : _)

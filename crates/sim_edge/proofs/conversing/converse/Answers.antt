@@ -1,10 +1,9 @@
 -- The match was read and the talk took place, or it says why not.
-use Rattle.{sim_edge.specs.Talked.OfRelay, sim_edge.specs.Talked.TalkedAs, std.specs.Prelude.IfSome, sim_edge.specs.Talked.ShelfCauses}
-use Rattle.{sim_edge.specs.Talked.TalksOf, sim_edge.specs.Words.Talk, sim_edge.specs.Words.talk_of, sim_top.specs.Outcome.session_match_in}
-use Rattle.sim_top.{proofs.Finishing.all_told, specs.Stops.status_of, specs.Stops.stop_text}
-use Rattle.sim_edge.proofs.{Counting.refused_causes, Counting.refused_shelf, Counting.talked_causes, Counting.talked_shelf}
+use Rattle.sim_edge.proofs.Counting.{refused_causes, refused_shelf, talked_causes, talked_shelf}
 use Rattle.sim_edge.proofs.Refusing.{live_refused, live_talked, where_known}
-use Rattle.std.proofs.Common.{ap, subst, sym}
+use Rattle.sim_edge.specs.{Talked.OfRelay, Talked.ShelfCauses, Talked.TalkedAs, Talked.TalksOf, Words.Talk, Words.talk_of}
+use Rattle.sim_top.{proofs.Finishing.all_told, specs.Outcome.session_match_in, specs.Stops.status_of, specs.Stops.stop_text}
+use Rattle.std.{proofs.Common.ap, proofs.Common.subst, proofs.Common.sym, specs.Prelude.IfSome}
 use Rattle.sim_edge.proofs.conversing.converse.Goals as goal
 
 pub returns-in-Ok-clause-talks : goal.returns-in-Ok-clause-talks

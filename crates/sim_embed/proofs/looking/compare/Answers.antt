@@ -1,8 +1,7 @@
 -- States that bytes stand for are valid, so their rows ascend, and have short ways.
 use Rattle.sim_codec.proofs.ShortWays.{short_ways}
-use Rattle.sim_embed.proofs.looking.compare.Goals as goal
 
-pub difference-requires : goal.difference-requires
+pub difference-requires : Rattle.sim_embed.proofs.looking.compare.Goals.difference-requires
 difference-requires c =
     let setup = c.in_ok-setup.setup in
     let left = c.in_ok-left.ensures.is.valid in

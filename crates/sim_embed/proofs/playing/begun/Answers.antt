@@ -1,9 +1,8 @@
 -- The state on the board is the first one, which is valid.
 use Rattle.sim_base.specs.{Turn.first_state, Validity.IsValid}
 use Rattle.{sim_laws.proofs.Validity.first_state_is_valid, std.proofs.Common.◌≡◌, std.proofs.Common.subst, std.proofs.Common.sym}
-use Rattle.sim_embed.proofs.playing.begun.Goals as goal
 
-pub of-requires : goal.of-requires
+pub of-requires : Rattle.sim_embed.proofs.playing.begun.Goals.of-requires
 of-requires g c =
     let setup = c.args.setup.now in
     let is : c.scene.result.state.now ≡ first_state setup = cc (c.scene.ensures.state, c.in_ok-start.ensures.state, c.new-board.ensures.setup) in

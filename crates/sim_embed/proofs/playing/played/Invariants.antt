@@ -1,6 +1,5 @@
 -- Each kind so far has one handler, and the others have none.
-use Rattle.sim_embed.proofs.playing.played.Given as goal
 use Rattle.sim_base.proofs.Keyed.{AreKeyedBelow}
 
-abbrev pub invariant-loop-kind : goal.invariant-loop-kind
+abbrev pub invariant-loop-kind : Rattle.sim_embed.proofs.playing.played.Given.invariant-loop-kind
 invariant-loop-kind g l = AreKeyedBelow (λ (h : _). h.kind) l.handlers.items l.kind

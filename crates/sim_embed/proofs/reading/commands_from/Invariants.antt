@@ -1,7 +1,6 @@
 -- The commands so far, each of a player.
-use Rattle.{serde_json.specs.View.view, sim_json.specs.Records.numbered}
-use Rattle.std.proofs.Common.{◌≡◌, [], map, length, All}
-use Rattle.sim_embed.specs.Orders.{IsOrderFor, order_of}
+use Rattle.{serde_json.specs.View.view, sim_embed.specs.Orders.IsOrderFor, sim_embed.specs.Orders.order_of, sim_json.specs.Records.numbered}
+use Rattle.std.proofs.Common.{[], ◌≡◌, All, length, map}
 use Rattle.sim_embed.proofs.reading.commands_from.Given as goal
 
 abbrev pub invariant-loop-rest : goal.invariant-loop-rest

@@ -1,8 +1,7 @@
 use Rattle.std.proofs.Common.{ℕ, List, replicate, true, subst, sym}
 use Rattle.sim_grid.{proofs.Words.packed_open, specs.Packed.ArePacked}
-use Rattle.sim_grid.proofs.packed.all_open.Goals as goal
 
-pub returns : goal.returns
+pub returns : Rattle.sim_grid.proofs.packed.all_open.Goals.returns
 returns c =
     subst (λ (l : List ℕ). ArePacked (replicate c.args.count true) l) (sym (c.in_ok-vec.ensures.items_if_clones_equal (λ y e. e)))
     (packed_open c.args.count)

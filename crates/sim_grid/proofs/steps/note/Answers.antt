@@ -1,10 +1,8 @@
-use Rattle.std.proofs.Common.{ℕ, ◌<◌, length, set, arith, subst, sym}
-use Rattle.std.proofs.lemmas.List.{get_or-set_other, get_or-set_same, length-set}
-use Rattle.sim_grid.proofs.Beside.{place-below, places-apart}
-use Rattle.sim_grid.specs.{Grids.field_of_grid, Grids.place_of, StepBits.AreStepsFrom, StepBits.IsNoted}
-use Rattle.sim_grid.proofs.steps.note.Goals as goal
+use Rattle.sim_grid.{proofs.Beside.place-below, proofs.Beside.places-apart, specs.Grids.field_of_grid, specs.Grids.place_of, specs.StepBits.AreStepsFrom}
+use Rattle.{sim_grid.specs.StepBits.IsNoted, std.proofs.Common.◌<◌, std.proofs.Common.arith, std.proofs.Common.length}
+use Rattle.std.proofs.{Common.set, Common.subst, Common.sym, Common.ℕ, lemmas.List.get_or-set_other, lemmas.List.get_or-set_same, lemmas.List.length-set}
 
-pub returns : goal.returns
+pub returns : Rattle.sim_grid.proofs.steps.note.Goals.returns
 returns c =
     let cells = c.args.cells.now in
     let old = c.args.steps.now.items in

@@ -1,8 +1,7 @@
 use Rattle.std.proofs.Common.{ℕ, ◌+◌, ◌*◌, List, arith, subst, sym}
 use Rattle.sim_grid.{proofs.Beside.first-more, specs.StepBits.AreFirstSteps}
-use Rattle.sim_grid.proofs.steps.push_row.Goals as goal
 
-pub loop-x-preserved : goal.loop-x-preserved
+pub loop-x-preserved : Rattle.sim_grid.proofs.steps.push_row.Goals.loop-x-preserved
 loop-x-preserved c =
     let g = c.args.cells.now in
     let x = c.loop-x.x in

@@ -1,9 +1,8 @@
 use Rattle.std.proofs.Common.{ℕ, ◌+◌, Bool, subst, sym, ◌∙◌}
 use Rattle.sim_grid.proofs.{Bits.AreBits, Bits.bits_more, Bits.bits_past, steps.steps_from.Goals.else-leads_on, steps.steps_from.Goals.then-leads_on}
 use Rattle.sim_grid.specs.{Grids.field_of_grid, StepBits.is_open_step}
-use Rattle.sim_grid.proofs.steps.steps_from.Goals as goal
 
-pub loop-which-preserved : goal.loop-which-preserved
+pub loop-which-preserved : Rattle.sim_grid.proofs.steps.steps_from.Goals.loop-which-preserved
 loop-which-preserved c =
     let test : ℕ → Bool = is_open_step (field_of_grid c.args.cells.now) c.args.from in
     let n = c.loop-which.which in

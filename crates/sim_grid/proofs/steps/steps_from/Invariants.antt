@@ -1,8 +1,7 @@
 use Rattle.std.{proofs.Common.◌≡◌, proofs.Common.ℕ, proofs.Common.◌<◌, proofs.Common.◌≤◌, proofs.Common.cond, specs.Int.bit_at}
 use Rattle.sim_grid.specs.{Grids.field_of_grid, StepBits.is_open_step}
-use Rattle.sim_grid.proofs.steps.steps_from.Given as goal
 
-abbrev pub invariant-loop-which : goal.invariant-loop-which
+abbrev pub invariant-loop-which : Rattle.sim_grid.proofs.steps.steps_from.Given.invariant-loop-which
 invariant-loop-which l = record {
   seen : (j : ℕ) → j < l.which → bit_at l.steps j ≡ cond (is_open_step (field_of_grid l.cells) l.from j) 1 0;
   blank : (j : ℕ) → l.which ≤ j → bit_at l.steps j ≡ 0;

@@ -1,9 +1,8 @@
 -- Rectangles on the land without a cell in common are those whose cells are open.
 use Rattle.sim_ground.proofs.Common.{Bool, not, ◌&&◌, ap, Fact, list_any, overlap, overlaps_any, sym, ◌∙◌}
 use Rattle.sim_ground.proofs.Freeing.{free_is}
-use Rattle.sim_ground.proofs.free.is_free.Goals as goal
 
-pub returns-then-is_inside : goal.returns-then-is_inside
+pub returns-then-is_inside : Rattle.sim_ground.proofs.free.is_free.Goals.returns-then-is_inside
 returns-then-is_inside c =
     let apart : Bool = not (list_any (overlap c.args.rect.now) c.args.land.now.closed)
     && not (list_any (λ (fact : Fact). overlaps_any c.args.rect.now fact.rect) c.args.facts.now) in

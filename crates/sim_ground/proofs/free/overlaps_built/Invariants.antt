@@ -1,6 +1,5 @@
 use Rattle.sim_ground.proofs.Common.{◌≡◌, drop, Fact, list_any, overlaps_any}
-use Rattle.sim_ground.proofs.free.overlaps_built.Given as goal
 
-abbrev pub invariant-loop-fact : goal.invariant-loop-fact
+abbrev pub invariant-loop-fact : Rattle.sim_ground.proofs.free.overlaps_built.Given.invariant-loop-fact
 invariant-loop-fact l = list_any (λ (fact : Fact). overlaps_any l.rect fact.rect) l.facts ≡ list_any (λ (fact : Fact). overlaps_any l.rect fact.rect)
     (drop l.fact-index l.facts)

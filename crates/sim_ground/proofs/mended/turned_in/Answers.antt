@@ -1,9 +1,8 @@
 -- The cells between are those of the rectangle.
 use Rattle.sim_ground.{proofs.Adding.adds_same, proofs.Stretches.rect_is, specs.Mended.AddsTurned}
 use Rattle.sim_ground.proofs.Common.{[], List, Cell, arith, covers, in_rows, label_in, rules, SFits, subst, to_z-of_z, w32}
-use Rattle.sim_ground.proofs.mended.turned_in.Goals as goal
 
-pub returns : goal.returns
+pub returns : Rattle.sim_ground.proofs.mended.turned_in.Goals.returns
 returns c =
     let south : SFits w32 c.args.rect.now.z0 = search rules in
     let north : SFits w32 c.args.rect.now.z1 = search rules in

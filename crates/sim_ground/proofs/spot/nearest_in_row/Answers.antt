@@ -1,9 +1,8 @@
 -- One cell more.
 use Rattle.sim_ground.proofs.{Rows.fold-more_cell, Rows.fold-past_cell, spot.nearest_in_row.Goals.else-open, spot.nearest_in_row.Goals.then-open}
 use Rattle.sim_ground.proofs.Common.{is_open_at, IsSmallIfAny, nearer, subst, sym, ◌∙◌}
-use Rattle.sim_ground.proofs.spot.nearest_in_row.Goals as goal
 
-pub loop-x-preserved : goal.loop-x-preserved
+pub loop-x-preserved : Rattle.sim_ground.proofs.spot.nearest_in_row.Goals.loop-x-preserved
 loop-x-preserved c =
     let test = is_open_at c.args.grid.now in
     let step = nearer c.args.at.now in

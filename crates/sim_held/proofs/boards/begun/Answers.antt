@@ -1,9 +1,8 @@
 -- The first state is valid.
 use Rattle.{sim_base.specs.Turn.first_state, sim_base.specs.Validity.IsValid, sim_laws.proofs.Validity.first_state_is_valid}
 use Rattle.sim_held.proofs.Common.{ap, subst, sym, ◌∙◌}
-use Rattle.sim_held.proofs.boards.begun.Goals as goal
 
-pub returns-clause-valid : goal.returns-clause-valid
+pub returns-clause-valid : Rattle.sim_held.proofs.boards.begun.Goals.returns-clause-valid
 returns-clause-valid g c =
     subst (IsValid c.args.setup.now) (sym (c.finish-state.ensures.state ∙ c.in_ok-start.ensures.state ∙ ap first_state c.new-board.ensures.setup))
     (first_state_is_valid c.args.setup.now c.requires.limits)

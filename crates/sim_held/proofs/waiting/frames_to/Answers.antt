@@ -1,7 +1,6 @@
 -- The frames of one list more.
-use Rattle.sim_held.proofs.Common.{◌<◌, length, ◌++◌, get_or, take, arith, ap, down_frame, flat_map, flat_map-append, sym, take_all, told_to, ◌∙◌}
-use Rattle.sim_held.proofs.{Frames.flat_map_more, Waits.none_by_list}
-use Rattle.sim_held.specs.Servers.{frames_for, waiting}
+use Rattle.sim_held.proofs.Common.{◌++◌, ◌<◌, ◌∙◌, ap, arith, down_frame, flat_map, flat_map-append, get_or, length, sym, take, take_all, told_to}
+use Rattle.sim_held.{proofs.Frames.flat_map_more, proofs.Waits.none_by_list, specs.Servers.frames_for, specs.Servers.waiting}
 use Rattle.std.proofs.lemmas.Bool.{false≢true}
 use Rattle.sim_held.proofs.waiting.frames_to.Goals as goal
 

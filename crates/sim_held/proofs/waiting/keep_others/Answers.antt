@@ -1,9 +1,8 @@
 -- One list more has the posts to others alone.
 use Rattle.std.proofs.{Common.◌==◌, lemmas.List.Edits.map_over_more, lemmas.List.get_or_default}
 use Rattle.sim_held.proofs.Common.{ap, arith, filter, length, not, ◌∙◌}
-use Rattle.sim_held.proofs.waiting.keep_others.Goals as goal
 
-pub loop-posts-preserved : goal.loop-posts-preserved
+pub loop-posts-preserved : Rattle.sim_held.proofs.waiting.keep_others.Goals.loop-posts-preserved
 loop-posts-preserved c =
     let value = c.deref_mut-posts-items.ensures.value in
     let items = c.loop-posts.posts-items in

@@ -1,7 +1,6 @@
 -- What waits for others is as it was, and has frames.
-use Rattle.sim_held.proofs.{Common.ap, Common.subst, Common.sym, Common.◌∙◌, Serving.own_left}
-use Rattle.sim_held.proofs.Waits.{full_small, full_waits, others_small, others_wait}
-use Rattle.sim_held.specs.Servers.{AreSmall, waiting}
+use Rattle.sim_held.proofs.{Common.◌∙◌, Common.ap, Common.subst, Common.sym, Serving.own_left, Waits.full_small, Waits.full_waits, Waits.others_small}
+use Rattle.sim_held.{proofs.Waits.others_wait, specs.Servers.AreSmall, specs.Servers.waiting}
 use Rattle.sim_held.proofs.waiting.leave.Goals as goal
 
 pub returns-clause-said : goal.returns-clause-said

@@ -1,9 +1,8 @@
 -- The posts that stay are those to others.
 use Rattle.std.proofs.{Common.◌==◌, lemmas.Fn.filter_same}
 use Rattle.sim_held.proofs.Common.{not, filter, ap, rules, ◌∙◌}
-use Rattle.sim_held.proofs.waiting.others_of.Goals as goal
 
-pub returns : goal.returns
+pub returns : Rattle.sim_held.proofs.waiting.others_of.Goals.returns
 returns c =
     c.from_items.ensures ∙ filter_same _ (λ post. not (post.to == c.args.to)) _ (λ x b f' k. search rules) _ _ c.retain.ensures.filtered
     ∙ ap (filter (λ post. not (post.to == c.args.to))) c.into_items-items.ensures

@@ -1,5 +1,4 @@
 use Rattle.sim_laws.proofs.Root.{root_is_greatest}
-use Rattle.sim_laws.proofs.numbers.the_root_is_greatest.Goals as goal
 
-pub returns : goal.returns
+pub returns : Rattle.sim_laws.proofs.numbers.the_root_is_greatest.Goals.returns
 returns c = root_is_greatest

@@ -1,5 +1,4 @@
 use Rattle.sim_laws.proofs.Root.{root_is_unique}
-use Rattle.sim_laws.proofs.numbers.the_root_is_unique.Goals as goal
 
-pub returns : goal.returns
+pub returns : Rattle.sim_laws.proofs.numbers.the_root_is_unique.Goals.returns
 returns c = root_is_unique

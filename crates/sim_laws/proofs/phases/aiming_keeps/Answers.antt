@@ -1,7 +1,6 @@
 use Rattle.sim_laws.proofs.{Aiming.aimed_is_state, Common.refl}
-use Rattle.sim_laws.proofs.phases.aiming_keeps.Goals as goal
 
-pub returns : goal.returns
+pub returns : Rattle.sim_laws.proofs.phases.aiming_keeps.Goals.returns
 returns c = record {
   loose = λ setup state h. aimed_is_state 0 setup state h;
   valid = λ setup state h. aimed_is_state 1 setup state h;

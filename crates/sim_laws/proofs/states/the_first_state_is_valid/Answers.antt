@@ -1,5 +1,4 @@
 use Rattle.sim_laws.proofs.Validity.{first_state_is_valid}
-use Rattle.sim_laws.proofs.states.the_first_state_is_valid.Goals as goal
 
-pub returns : goal.returns
+pub returns : Rattle.sim_laws.proofs.states.the_first_state_is_valid.Goals.returns
 returns c = first_state_is_valid

@@ -1,5 +1,4 @@
 use Rattle.sim_laws.proofs.Turning.{bend_keeps_turn, bend_keeps_valid}
-use Rattle.sim_laws.proofs.turns.a_bend_keeps_a_state_valid.Goals as goal
 
-pub returns : goal.returns
+pub returns : Rattle.sim_laws.proofs.turns.a_bend_keeps_a_state_valid.Goals.returns
 returns c = record { valid = bend_keeps_valid; turn = bend_keeps_turn }

@@ -1,8 +1,7 @@
 -- One step more. Where the first item is refused early, there is none.
 use Rattle.std.proofs.{Common.arith, Common.rules, lemmas.Grind.common_steps}
-use Rattle.sim_lists.proofs.step_reading.steps_from.Goals as goal
 
-pub loop-rest-preserved : goal.loop-rest-preserved
+pub loop-rest-preserved : Rattle.sim_lists.proofs.step_reading.steps_from.Goals.loop-rest-preserved
 loop-rest-preserved c = record {
   start = search rules;
   same = grind (arith, common_steps);

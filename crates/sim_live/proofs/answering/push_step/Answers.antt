@@ -1,8 +1,7 @@
 -- The lines of just the events of the step.
-use Rattle.{sim_session.proofs.Beside.then_on, sim_session.specs.SessionText.lines_of, std.specs.Prelude.string_bytes}
-use Rattle.{sim_client.proofs.Standing.anyway}
-use Rattle.std.proofs.Common.{List, ◌++◌, ap, ◌∙◌}
-use Rattle.sim_base.specs.declared.step.Event.{Event}
+use Rattle.{sim_base.specs.declared.step.Event.Event, sim_client.proofs.Standing.anyway}
+use Rattle.sim_session.{proofs.Beside.then_on, specs.SessionText.lines_of}
+use Rattle.std.{proofs.Common.◌++◌, proofs.Common.◌∙◌, proofs.Common.ap, proofs.Common.List, specs.Prelude.string_bytes}
 use Rattle.sim_live.proofs.answering.push_step.Goals as goal
 
 pub returns-clause-text : goal.returns-clause-text

@@ -1,11 +1,9 @@
 -- Each line is heard, and then its answer is told.
-use Rattle.std.proofs.Common.{◌≡◌, ℕ, List, [], ◌∷◌, true, false, Ok, Err, ap, arith, rules, subst, sym, ◌∙◌}
 use Rattle.sim_live.proofs.Answered.{all_answered, answered_line, answered_nothing, stands_some, unheard_line, unmade_line, untold_line}
-use Rattle.sim_live.specs.Live.{answer}
-use Rattle.sim_session.specs.SessionWords.{seen_in}
+use Rattle.{sim_live.specs.Live.answer, sim_session.proofs.Keeping.keeps_on, sim_session.proofs.Keeping.kept, sim_session.specs.SessionWords.seen_in}
 use Rattle.sim_talk.specs.Talks.{Extends, heard, Hears}
+use Rattle.std.proofs.Common.{[], ◌∙◌, ◌∷◌, ◌≡◌, ap, arith, Err, false, List, Ok, rules, subst, sym, true, ℕ}
 use Rattle.sim_talk.specs.declared.fault.TalkFault.TheVariants as ends
-use Rattle.sim_session.proofs.Keeping.{keeps_on, kept}
 use Rattle.sim_live.proofs.living.answer_all.Goals as goal
 
 pub loop-before-init : goal.loop-before-init

@@ -1,7 +1,6 @@
 -- The talk is that over the match, and all rigs come back in their order, each system in its place.
 use Rattle.sim_live.proofs.Answered.{live_caused, live_settled, live_unmade}
-use Rattle.sim_talk.proofs.Talking.{nothing_kept}
-use Rattle.{sim_session.proofs.Keeping.came_back, sim_session.specs.Going.ComeBackBy}
+use Rattle.{sim_session.proofs.Keeping.came_back, sim_session.specs.Going.ComeBackBy, sim_talk.proofs.Talking.nothing_kept}
 use Rattle.std.proofs.Common.{Err, refl, subst, sym}
 use Rattle.sim_talk.specs.declared.fault.TalkFault.TheVariants as ends
 use Rattle.sim_live.proofs.living.live.Goals as goal

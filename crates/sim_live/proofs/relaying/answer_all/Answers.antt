@@ -1,8 +1,7 @@
 -- Each line is heard, and then its answer is told.
-use Rattle.std.proofs.Common.{◌≡◌, ℕ, List, [], ◌∷◌, true, false, Ok, Err, ap, arith, rules, subst, sym, ◌∙◌}
 use Rattle.sim_live.proofs.Relayed.{all_relayed, answered_line, answered_nothing, unheard_relayed, unmade_relayed, untold_relayed}
-use Rattle.sim_live.specs.Relays.{answer}
-use Rattle.sim_talk.specs.Talks.{Extends, heard, Hears}
+use Rattle.{sim_live.specs.Relays.answer, sim_talk.specs.Talks.Extends, sim_talk.specs.Talks.heard, sim_talk.specs.Talks.Hears}
+use Rattle.std.proofs.Common.{[], ◌∙◌, ◌∷◌, ◌≡◌, ap, arith, Err, false, List, Ok, rules, subst, sym, true, ℕ}
 use Rattle.sim_talk.specs.declared.fault.TalkFault.TheVariants as ends
 use Rattle.sim_live.proofs.relaying.answer_all.Goals as goal
 

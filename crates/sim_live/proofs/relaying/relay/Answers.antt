@@ -1,9 +1,7 @@
 -- However the talk ended, all that was told is written then.
-use Rattle.sim_live.proofs.Relayed.{relay_caused, relay_settled}
-use Rattle.sim_talk.proofs.Talking.{nothing_kept}
-use Rattle.sim_live.proofs.relaying.relay.Goals as goal
+use Rattle.{sim_live.proofs.Relayed.relay_caused, sim_live.proofs.Relayed.relay_settled, sim_talk.proofs.Talking.nothing_kept}
 
-pub returns : goal.returns
+pub returns : Rattle.sim_live.proofs.relaying.relay.Goals.returns
 returns g c =
     let relays = relay_settled c.args.rules c.talk_over-outcome.result c.settled.result _ _ _ c.talk_over-outcome.ensures.relays c.settled.ensures in
     record {

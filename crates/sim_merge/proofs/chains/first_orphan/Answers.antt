@@ -1,6 +1,5 @@
-use Rattle.sim_merge.proofs.Common.{length-map, Origin, origin_of, origins_of, sym, ◌∙◌}
-use Rattle.sim_merge.proofs.Common.{◌≡◌, ◌<◌, false, [], map, length, get_or, None, string_bytes, ap, arith, bare, below_more, get_or-map, is_orphan}
-use Rattle.sim_merge.proofs.ResolutionLemmas.{position-at, position-none}
+use Rattle.sim_merge.proofs.Common.{[], ◌<◌, ◌∙◌, ◌≡◌, ap, arith, bare, below_more, false, get_or, get_or-map, is_orphan, length, length-map, map, None, Origin}
+use Rattle.sim_merge.proofs.{Common.origin_of, Common.origins_of, Common.string_bytes, Common.sym, ResolutionLemmas.position-at, ResolutionLemmas.position-none}
 use Rattle.sim_merge.proofs.chains.first_orphan.Goals as goal
 
 pub returns-then-is_orphan : goal.returns-then-is_orphan

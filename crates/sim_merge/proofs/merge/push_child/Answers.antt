@@ -1,8 +1,7 @@
 use Rattle.sim_merge.proofs.Common.{ap, child, followed_by, no_children, node_of, nodes_of, ◌∙◌}
 use Rattle.sim_merge.proofs.NodeLemmas.{nodes_of-push}
-use Rattle.sim_merge.proofs.merge.push_child.Goals as goal
 
-pub returns : goal.returns
+pub returns : Rattle.sim_merge.proofs.merge.push_child.Goals.returns
 returns c =
     ap nodes_of c.in_ok-push.ensures.items ∙ nodes_of-push c.args.out.now.items _
     ∙ ap (λ name. followed_by (nodes_of c.args.out.now.items) (child name (node_of c.args.tree) no_children)) c.in_ok-name.ensures

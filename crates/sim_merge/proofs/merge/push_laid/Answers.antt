@@ -1,8 +1,7 @@
 use Rattle.sim_merge.proofs.ChildrenLemmas.{with_lower-child, with_lower-followed_by}
 use Rattle.sim_merge.proofs.Common.{ap, child, laying_of, no_children, node_of, nodes_of, sym, with_laid, with_lower, ◌∙◌}
-use Rattle.sim_merge.proofs.merge.push_laid.Goals as goal
 
-pub returns-in_ok-push_child-in-Some : goal.returns-in_ok-push_child-in-Some
+pub returns-in_ok-push_child-in-Some : Rattle.sim_merge.proofs.merge.push_laid.Goals.returns-in_ok-push_child-in-Some
 returns-in_ok-push_child-in-Some c =
     let old = nodes_of c.args.out.now.items in
     let name = c.args.name.now in

@@ -1,8 +1,7 @@
 use Rattle.sim_merge.proofs.Common.{◌∷◌, ◌++◌, if◌then◌else◌, ◌==◌, string_bytes, ap, sym, ◌∙◌}
 use Rattle.sim_merge.proofs.WordLemmas.{joined-next}
-use Rattle.sim_merge.proofs.words.joined.Goals as goal
 
-pub loop-place-preserved : goal.loop-place-preserved
+pub loop-place-preserved : Rattle.sim_merge.proofs.words.joined.Goals.loop-place-preserved
 loop-place-preserved c =
     let place = c.loop-place.place in
     let word = c.index-words-place.result in

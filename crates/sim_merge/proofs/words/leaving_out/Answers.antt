@@ -1,7 +1,6 @@
 use Rattle.sim_merge.proofs.Common.{not, filter, ap, contains_text, filter_same, rules, ◌∙◌}
-use Rattle.sim_merge.proofs.words.leaving_out.Goals as goal
 
-pub returns : goal.returns
+pub returns : Rattle.sim_merge.proofs.words.leaving_out.Goals.returns
 returns c =
     c.from_items.ensures
     ∙ filter_same _ (λ word. not (contains_text c.args.removed.now word)) _ (λ x b f' k. search rules) _ _ c.retain.ensures.filtered

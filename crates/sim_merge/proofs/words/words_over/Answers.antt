@@ -1,8 +1,7 @@
 use Rattle.sim_merge.proofs.Common.{reverse, fold, option_copied, ap, contains_text, join_with_byte, tokens_in, with_added, with_word, words_over, ◌∙◌}
 use Rattle.sim_merge.proofs.SurvivorLemmas.{words_by_changes}
-use Rattle.sim_merge.proofs.words.words_over.Goals as goal
 
-pub returns : goal.returns
+pub returns : Rattle.sim_merge.proofs.words.words_over.Goals.returns
 unfolding words_over
 returns c =
     let upper = c.in_ok-words_in.field-0 in

@@ -2,9 +2,8 @@
 use Rattle.std.proofs.Common.{List, All, ap, subst, sym, ◌∙◌}
 use Rattle.sim_base.specs.{Filters.field_of, Places.IsPlaced, Ways.Way, declared.place.Point.Point}
 use Rattle.sim_plans.proofs.Bounds.{ground, way_placed}
-use Rattle.sim_motion.proofs.moves.go.Goals as goal
 
-pub along-requires-clause-way : goal.along-requires-clause-way
+pub along-requires-clause-way : Rattle.sim_motion.proofs.moves.go.Goals.along-requires-clause-way
 along-requires-clause-way g c =
     let scene = c.args.scene.now in
     subst (λ (ps : List Point). All IsPlaced ps) (sym (c.as_slice-points.ensures ∙ ap (λ (w : Way). w.points) c.in_ok-way.ensures))

@@ -1,7 +1,6 @@
 use Rattle.{sim_base.specs.Move.moved, sim_plans.proofs.Answered.answered, sim_plans.proofs.MovePlan.move_plan_is, sim_plans.specs.Plans.move_plan}
-use Rattle.sim_motion.proofs.phase.motion_changes.Goals as goal
 
-pub returns : goal.returns
+pub returns : Rattle.sim_motion.proofs.phase.motion_changes.Goals.returns
 returns g c =
     let setup = c.args.scene.now.setup.now in
     let state = c.args.scene.now.state.now in

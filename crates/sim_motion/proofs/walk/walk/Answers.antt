@@ -1,9 +1,7 @@
-use Rattle.{sim_base.specs.Places.IsPlaced, sim_motion.proofs.Walking.walk_more}
-use Rattle.std.proofs.Common.{◌≤◌, length, subst, sym, ◌∙◌}
-use Rattle.std.proofs.lemmas.List.Elements.{All-drop, All-get_or, All-take}
-use Rattle.sim_motion.proofs.walk.walk.Goals as goal
+use Rattle.{sim_base.specs.Places.IsPlaced, sim_motion.proofs.Walking.walk_more, std.proofs.Common.◌∙◌, std.proofs.Common.◌≤◌}
+use Rattle.std.proofs.{Common.length, Common.subst, Common.sym, lemmas.List.Elements.All-drop, lemmas.List.Elements.All-get_or, lemmas.List.Elements.All-take}
 
-pub loop-rest-preserved : goal.loop-rest-preserved
+pub loop-rest-preserved : Rattle.sim_motion.proofs.walk.walk.Goals.loop-rest-preserved
 loop-rest-preserved c =
     let rest = c.loop-rest.rest.now in
     let next = c.next-item.result in

@@ -1,7 +1,6 @@
 use Rattle.sim_orders.proofs.Common.{◌≡◌, Bool, true, ◌&&◌, ◌==◌, ap, eq-eqb, list_any, sym, ◌∙◌}
-use Rattle.sim_orders.proofs.named.is_ordered.Goals as goal
 
-pub returns-then-row-player : goal.returns-then-row-player
+pub returns-then-row-player : Rattle.sim_orders.proofs.named.is_ordered.Goals.returns-then-row-player
 returns-then-row-player c =
     let row = c.args.row.now in
     let ids = c.args.ids.now in

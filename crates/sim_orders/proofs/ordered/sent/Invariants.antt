@@ -1,5 +1,4 @@
 use Rattle.sim_orders.proofs.Common.{◌≡◌, cond, [], take, flat_map, is_ordered, sent_changes}
-use Rattle.sim_orders.proofs.ordered.sent.Given as goal
 
-abbrev pub invariant-loop-row : goal.invariant-loop-row
+abbrev pub invariant-loop-row : Rattle.sim_orders.proofs.ordered.sent.Given.invariant-loop-row
 invariant-loop-row l = l.changes ≡ flat_map (λ row. cond (is_ordered l.player l.ids row) (sent_changes l.to row) []) (take l.row-index l.rows)

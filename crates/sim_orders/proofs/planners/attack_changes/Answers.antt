@@ -1,8 +1,7 @@
 use Rattle.sim_orders.proofs.{Common.set_on_changes, Common.subst, Common.sym, Common.◌∙◌, Planning.plan_obeys, Planning.sorted_changes}
 use Rattle.sim_orders.proofs.Common.{◌≡◌, true, [], IsPermutation, ap, command_plan_by, cond-true, is_enemy, of_answer, ordered_changes, row_of, rules}
-use Rattle.sim_orders.proofs.planners.attack_changes.Goals as goal
 
-pub returns-clause-obeys : goal.returns-clause-obeys
+pub returns-clause-obeys : Rattle.sim_orders.proofs.planners.attack_changes.Goals.returns-clause-obeys
 returns-clause-obeys c =
     let setup = c.args.setup.now in
     let state = c.args.state.now in

@@ -1,8 +1,7 @@
 use Rattle.sim_orders.proofs.Common.{IsPermutation, ap, command_plan_by, of_answer, subst, sym, ◌∙◌}
 use Rattle.sim_orders.proofs.Planning.{plan_obeys, sorted_removals}
-use Rattle.sim_orders.proofs.planners.delete_changes.Goals as goal
 
-pub returns-clause-obeys : goal.returns-clause-obeys
+pub returns-clause-obeys : Rattle.sim_orders.proofs.planners.delete_changes.Goals.returns-clause-obeys
 returns-clause-obeys c =
     let setup = c.args.setup.now in
     let state = c.args.state.now in

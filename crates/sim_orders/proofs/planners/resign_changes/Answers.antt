@@ -1,8 +1,7 @@
 use Rattle.sim_orders.proofs.Common.{cond, List, [], ◌∷◌, ◌==◌, flat_map, ap, command_plan_by, of_answer, Owner, Row, sym, ◌∙◌}
 use Rattle.sim_orders.proofs.Planning.{plan_obeys, resigns}
-use Rattle.sim_orders.proofs.planners.resign_changes.Goals as goal
 
-pub returns-clause-obeys : goal.returns-clause-obeys
+pub returns-clause-obeys : Rattle.sim_orders.proofs.planners.resign_changes.Goals.returns-clause-obeys
 returns-clause-obeys c =
     let setup = c.args.setup.now in
     let state = c.args.state.now in

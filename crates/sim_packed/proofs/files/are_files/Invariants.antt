@@ -1,6 +1,5 @@
 -- The files so far are read.
-use Rattle.std.proofs.Common.{length}
-use Rattle.sim_packed.proofs.Unpacking.{IsReadTo}
+use Rattle.{sim_packed.proofs.Unpacking.IsReadTo, std.proofs.Common.length}
 use Rattle.sim_packed.proofs.files.are_files.Given as goal
 
 abbrev pub invariant-loop-left : goal.invariant-loop-left

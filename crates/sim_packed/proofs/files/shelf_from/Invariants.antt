@@ -1,6 +1,5 @@
 -- The shelf holds the files so far.
-use Rattle.std.proofs.Common.{length}
-use Rattle.sim_packed.proofs.Unpacking.{IsUnpackedTo}
+use Rattle.{sim_packed.proofs.Unpacking.IsUnpackedTo, std.proofs.Common.length}
 use Rattle.sim_packed.proofs.files.shelf_from.Given as goal
 
 abbrev pub invariant-loop-rest : goal.invariant-loop-rest

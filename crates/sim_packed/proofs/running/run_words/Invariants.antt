@@ -1,9 +1,8 @@
 -- So many rigs of systems that mean what they should, all cleared.
 use Rattle.{sim_client.specs.StageWords.AreCleared, sim_packed.proofs.running.run_words.OwnLists.own-1}
 use Rattle.{sim_system.specs.Meanings.HaveKinds, sim_system.specs.RigWords.systems_by, std.proofs.Common.◌≡◌, std.proofs.Common.length, std.proofs.Common.All}
-use Rattle.sim_packed.proofs.running.run_words.Given as goal
 
-abbrev pub invariant-loop : goal.invariant-loop
+abbrev pub invariant-loop : Rattle.sim_packed.proofs.running.run_words.Given.invariant-loop
 invariant-loop g l =
     record {
       count : length l.rigs.items ≡ l.counter;

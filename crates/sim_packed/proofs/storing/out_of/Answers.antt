@@ -1,7 +1,6 @@
 -- By how many words there are.
-use Rattle.std.proofs.Common.{inl, inr, arith}
-use Rattle.sim_packed.proofs.Outs.{of_four, of_others}
-use Rattle.sim_packed.proofs.storing.out_of.Goals.{in_default-via-then-words-lt3, in_default-via-else-words-lt3+else-words-lt4+else-words-lt5}
+use Rattle.sim_packed.proofs.{Outs.of_four, Outs.of_others, storing.out_of.Goals.in_default-via-else-words-lt3+else-words-lt4+else-words-lt5}
+use Rattle.{sim_packed.proofs.storing.out_of.Goals.in_default-via-then-words-lt3, std.proofs.Common.arith, std.proofs.Common.inl, std.proofs.Common.inr}
 use Rattle.sim_packed.proofs.storing.out_of.Goals as goal
 
 pub returns-in-len4 : goal.returns-in-len4

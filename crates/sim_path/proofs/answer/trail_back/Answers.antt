@@ -1,8 +1,7 @@
 use Rattle.sim_path.proofs.Common.{Cell, cell_of, field_of_grid, IsTrail, IsTrailToEnd, subst}
-use Rattle.sim_path.proofs.answer.trail_back.Goals as goal
 use Rattle.sim_base.proofs.Lists.{on_ok}
 
-pub returns : goal.returns
+pub returns : Rattle.sim_path.proofs.answer.trail_back.Goals.returns
 returns c =
     let field = field_of_grid c.args.grid.now in
     let from = cell_of c.args.start.now in

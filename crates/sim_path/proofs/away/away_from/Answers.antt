@@ -1,8 +1,7 @@
 use Rattle.sim_path.proofs.Common.{ℕ, ◌+◌, Bool, AreBits, bits_more, bits_past, leads_away, subst, sym, ◌∙◌}
 use Rattle.sim_path.proofs.away.away_from.Goals.{else-leads_away, then-leads_away}
-use Rattle.sim_path.proofs.away.away_from.Goals as goal
 
-pub loop-which-preserved : goal.loop-which-preserved
+pub loop-which-preserved : Rattle.sim_path.proofs.away.away_from.Goals.loop-which-preserved
 loop-which-preserved c =
     let test : ℕ → Bool = λ j. leads_away c.args.at c.args.goal j in
     let n = c.loop-which.which in

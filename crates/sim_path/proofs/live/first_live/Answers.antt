@@ -1,5 +1,4 @@
-use Rattle.sim_path.proofs.AwaySteps.{one-more}
-use Rattle.sim_path.proofs.Common.{◌≡◌, ℕ, true, arith, Cell, field_of_grid, IsTightStep}
+use Rattle.sim_path.proofs.{AwaySteps.one-more, Common.◌≡◌, Common.arith, Common.Cell, Common.field_of_grid, Common.IsTightStep, Common.true, Common.ℕ}
 use Rattle.sim_path.specs.{Floors.slope_of, Live.is_dead}
 use Rattle.sim_path.proofs.live.first_live.Goals as goal
 

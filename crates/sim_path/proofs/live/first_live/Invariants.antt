@@ -1,7 +1,6 @@
 use Rattle.sim_path.proofs.Common.{◌≡◌, ℕ, ◌<◌, true, Cell, field_of_grid, IsTightStep}
 use Rattle.sim_path.specs.{Floors.slope_of, Live.is_dead}
-use Rattle.sim_path.proofs.live.first_live.Given as goal
 
-abbrev pub invariant-loop-which : goal.invariant-loop-which
+abbrev pub invariant-loop-which : Rattle.sim_path.proofs.live.first_live.Given.invariant-loop-which
 invariant-loop-which l = (j : ℕ) (p : Cell) → j < l.which → IsTightStep (field_of_grid l.grid) l.start (slope_of l.slope) l.fn.cell p j
     → is_dead l.live p ≡ true

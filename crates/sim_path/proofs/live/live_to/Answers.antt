@@ -1,4 +1,2 @@
-use Rattle.sim_path.proofs.live.live_to.Goals as goal
-
-pub mark_all-requires-clause-size : goal.mark_all-requires-clause-size
+pub mark_all-requires-clause-size : Rattle.sim_path.proofs.live.live_to.Goals.mark_all-requires-clause-size
 mark_all-requires-clause-size c = c.requires.slope.size_is

@@ -1,8 +1,7 @@
-use Rattle.sim_path.proofs.Common.{rules, same_cell, same_cell-self, same_cell-true, subst, sym, true≢false, ◌∙◌}
-use Rattle.sim_path.proofs.Common.{◌≡◌, true, false, ◌≢◌, List, Option, ap, Cell, field_of_grid, is_free, IsFirstTight}
+use Rattle.sim_path.proofs.Common.{◌∙◌, ◌≡◌, ◌≢◌, ap, Cell, false, field_of_grid, is_free, IsFirstTight, List, Option, rules, same_cell, same_cell-self}
+use Rattle.sim_path.proofs.Common.{same_cell-true, subst, sym, true, true≢false}
 use Rattle.sim_path.proofs.{LiveWays.live-begins, LiveWays.live-dead, TightTrails.at-further, TightTrails.chain-done, TightTrails.IsAt}
-use Rattle.sim_path.specs.SlopeLaws.{slope-floor}
-use Rattle.sim_path.specs.{Floors.slope_of, Live.is_dead, MarkTables.marked_in}
+use Rattle.sim_path.specs.{Floors.slope_of, Live.is_dead, MarkTables.marked_in, SlopeLaws.slope-floor}
 use Rattle.sim_path.proofs.live.live_trail.Goals as goal
 
 pub loop-init : goal.loop-init

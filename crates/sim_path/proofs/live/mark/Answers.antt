@@ -1,8 +1,7 @@
 use Rattle.sim_path.proofs.{Common.Cell, Common.List, Common.size_of_marks, Common.subst, Common.sym, LiveMarks.spread-one}
 use Rattle.sim_path.specs.Live.{IsSpread}
-use Rattle.sim_path.proofs.live.mark.Goals as goal
 
-pub returns-in_ok-push-clause-spread : goal.returns-in_ok-push-clause-spread
+pub returns-in_ok-push-clause-spread : Rattle.sim_path.proofs.live.mark.Goals.returns-in_ok-push-clause-spread
 returns-in_ok-push-clause-spread c =
     let old = c.args.live.now in
     let next = c.set.new.self in

@@ -1,7 +1,5 @@
-use Rattle.sim_path.proofs.LiveMarks.{live-first, live-more}
-use Rattle.sim_path.proofs.Common.{List, [], ◌∷◌, ◌++◌, ap, Cell, Contains, Contains-append_left, Contains-push, field_of_grid, subst, sym, ◌∙◌}
-use Rattle.sim_path.specs.Live.{AreLiveBut}
-use Rattle.sim_search.specs.Distances.{number_in}
+use Rattle.sim_path.proofs.Common.{[], ◌++◌, ◌∙◌, ◌∷◌, ap, Cell, Contains, Contains-append_left, Contains-push, field_of_grid, List, subst, sym}
+use Rattle.{sim_path.proofs.LiveMarks.live-first, sim_path.proofs.LiveMarks.live-more, sim_path.specs.Live.AreLiveBut, sim_search.specs.Distances.number_in}
 use Rattle.sim_path.proofs.live.mark_all.Goals as goal
 
 pub loop-init : goal.loop-init

@@ -1,8 +1,6 @@
-use Rattle.sim_path.proofs.LiveMarks.{spread-more, spread-past}
 use Rattle.sim_path.proofs.Common.{◌≡◌, Cell, field_of_grid, IsOnGround, marked_in, Size, subst, sym, true}
-use Rattle.sim_path.specs.Live.{IsSpread}
-use Rattle.sim_search.specs.Distances.{number_in}
-use Rattle.sim_path.proofs.live.mark_from.Goals.{in-Some+in_ok-mark, in_default}
+use Rattle.sim_path.proofs.{LiveMarks.spread-more, LiveMarks.spread-past, live.mark_from.Goals.in-Some+in_ok-mark, live.mark_from.Goals.in_default}
+use Rattle.{sim_path.specs.Live.IsSpread, sim_search.specs.Distances.number_in}
 use Rattle.sim_path.proofs.live.mark_from.Goals as goal
 
 pub mark-requires-clause-on : goal.mark-requires-clause-on

@@ -1,6 +1,5 @@
-use Rattle.sim_path.proofs.AwaySteps.{one-more}
-use Rattle.sim_path.proofs.Common.{◌≡◌, ℕ, true, arith, Cell, field_of_grid, IsTight, IsTightStep}
-use Rattle.sim_path.specs.{Floors.slope_of, MarkTables.marked_in}
+use Rattle.sim_path.proofs.{AwaySteps.one-more, Common.◌≡◌, Common.arith, Common.Cell, Common.field_of_grid, Common.IsTight, Common.IsTightStep, Common.true}
+use Rattle.sim_path.{proofs.Common.ℕ, specs.Floors.slope_of, specs.MarkTables.marked_in}
 use Rattle.sim_path.proofs.slope.first_descent.Goals as goal
 
 pub loop-which-init : goal.loop-which-init

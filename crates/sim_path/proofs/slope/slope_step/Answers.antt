@@ -1,8 +1,6 @@
-use Rattle.sim_path.proofs.FloorLaws.{octile-far}
-use Rattle.sim_path.proofs.Common.{◌≡◌, ℕ, ◌+◌, ◌-◌, ◌≤◌, true, false, SomeIff, Some, Option, ap, ap₂, arith, Cell, field_of_grid, IsTightStep, marked_in}
-use Rattle.sim_path.proofs.Common.{octile, same_Some, subst, sym, true≢false, ⊎_elim, ◌∙◌}
-use Rattle.sim_path.specs.Floors.{slope_of}
-use Rattle.std.proofs.lemmas.Bool.{cases_Bool}
+use Rattle.sim_path.proofs.Common.{◌+◌, ◌-◌, ◌∙◌, ◌≡◌, ◌≤◌, ap, ap₂, arith, Cell, false, field_of_grid, IsTightStep, marked_in, octile, Option, same_Some, Some}
+use Rattle.sim_path.proofs.Common.{SomeIff, subst, sym, true, true≢false, ℕ, ⊎_elim}
+use Rattle.{sim_path.proofs.FloorLaws.octile-far, sim_path.specs.Floors.slope_of, std.proofs.lemmas.Bool.cases_Bool}
 use Rattle.sim_path.proofs.slope.slope_step.Goals as goal
 
 -- what is left of a cost for the step is the floor

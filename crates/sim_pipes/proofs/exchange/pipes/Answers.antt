@@ -1,9 +1,8 @@
 -- One pipe more is empty.
 use Rattle.std.proofs.Common.{length-append}
 use Rattle.sim_pipes.proofs.{Common.[], Common.◌∷◌, Common.arith, Conveying.one_more_empty}
-use Rattle.sim_pipes.proofs.exchange.pipes.Goals as goal
 
-pub loop-preserved : goal.loop-preserved
+pub loop-preserved : Rattle.sim_pipes.proofs.exchange.pipes.Goals.loop-preserved
 loop-preserved c = record {
   count = rw c.in_ok-push.ensures.items (omega (arith, c.loop.invariant.count, length-append c.loop.pipes.items (c.new.result ∷ [])));
   empty = λ k. rw (c.in_ok-push.ensures.items, c.new.ensures) (one_more_empty c.loop.pipes.items k (c.loop.invariant.empty k));

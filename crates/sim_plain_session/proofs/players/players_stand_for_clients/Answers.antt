@@ -1,7 +1,6 @@
 use Rattle.sim_plain_session.proofs.PlayerLemmas.{beginning_stands, bending_stands, learning_stands, playing_stands, same_mark, same_turn}
-use Rattle.sim_plain_session.proofs.players.players_stand_for_clients.Goals as goal
 
-pub returns : goal.returns
+pub returns : Rattle.sim_plain_session.proofs.players.players_stand_for_clients.Goals.returns
 returns c =
     record {
       same = same_turn;

@@ -1,7 +1,6 @@
 use Rattle.sim_plain_session.proofs.Shown.{events_are_shown, starts_are_shown}
-use Rattle.sim_plain_session.proofs.printed.events_show_states.Goals as goal
 
-pub returns : goal.returns
+pub returns : Rattle.sim_plain_session.proofs.printed.events_show_states.Goals.returns
 returns c =
     record {
       steps = events_are_shown;

@@ -1,6 +1,5 @@
 -- The law is a lemma.
 use Rattle.sim_plans.proofs.Answering.{answers_agree}
-use Rattle.sim_plans.proofs.answers.answers_are_those_over_the_rows.Goals as goal
 
-pub returns : goal.returns
+pub returns : Rattle.sim_plans.proofs.answers.answers_are_those_over_the_rows.Goals.returns
 returns c = answers_agree

@@ -1,5 +1,4 @@
 use Rattle.sim_plans.proofs.RowByRow.{plan_then}
-use Rattle.sim_plans.proofs.changes.plans_follow.Goals as goal
 
-pub returns : goal.returns
+pub returns : Rattle.sim_plans.proofs.changes.plans_follow.Goals.returns
 returns c = plan_then

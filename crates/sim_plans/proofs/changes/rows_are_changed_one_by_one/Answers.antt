@@ -1,5 +1,4 @@
 use Rattle.sim_plans.proofs.RowByRow.{row_by_row_is}
-use Rattle.sim_plans.proofs.changes.rows_are_changed_one_by_one.Goals as goal
 
-pub returns : goal.returns
+pub returns : Rattle.sim_plans.proofs.changes.rows_are_changed_one_by_one.Goals.returns
 returns c = row_by_row_is

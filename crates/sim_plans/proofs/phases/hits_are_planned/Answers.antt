@@ -1,5 +1,4 @@
 use Rattle.sim_plans.proofs.HitPlan.{hit_plan_is}
-use Rattle.sim_plans.proofs.phases.hits_are_planned.Goals as goal
 
-pub returns : goal.returns
+pub returns : Rattle.sim_plans.proofs.phases.hits_are_planned.Goals.returns
 returns c = hit_plan_is

@@ -1,5 +1,4 @@
 use Rattle.sim_plans.proofs.MovePlan.{move_plan_is}
-use Rattle.sim_plans.proofs.phases.moves_are_planned.Goals as goal
 
-pub returns : goal.returns
+pub returns : Rattle.sim_plans.proofs.phases.moves_are_planned.Goals.returns
 returns c = move_plan_is

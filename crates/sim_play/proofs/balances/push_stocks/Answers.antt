@@ -1,9 +1,8 @@
 -- The line of one player more.
 use Rattle.sim_play.proofs.Common.{◌≡◌, ℕ, ◌+◌, ◌-◌, ◌++◌, string_bytes, flat_map, amount_of, ap, arith, player_line, range_with_len, stock_line, ◌∙◌}
 use Rattle.sim_play.proofs.PlayerLines.{lines_more}
-use Rattle.sim_play.proofs.balances.push_stocks.Goals as goal
 
-pub loop-player-preserved : goal.loop-player-preserved
+pub loop-player-preserved : Rattle.sim_play.proofs.balances.push_stocks.Goals.loop-player-preserved
 loop-player-preserved c =
     let i = c.loop-player.invariant in
     let player = c.loop-player.player in

@@ -1,8 +1,7 @@
 -- There is a line for each player so far.
 use Rattle.sim_play.proofs.Common.{◌≡◌, ◌-◌, ◌≤◌, ◌++◌, string_bytes, flat_map, player_line, range_with_len}
-use Rattle.sim_play.proofs.balances.push_stocks.Given as goal
 
-abbrev pub invariant-loop-player : goal.invariant-loop-player
+abbrev pub invariant-loop-player : Rattle.sim_play.proofs.balances.push_stocks.Given.invariant-loop-player
 invariant-loop-player l =
     record {
       begun : 1 ≤ l.player;

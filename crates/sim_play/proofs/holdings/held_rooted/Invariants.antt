@@ -1,9 +1,8 @@
 -- The cells so far are counted, as cells of both lists side by side.
 use Rattle.std.proofs.Common.{◌≡◌, ℕ, Bool, ◌<◌, ◌==◌, ◌&&◌, get_or, take}
 use Rattle.std.specs.Prelude.{count_by, zip}
-use Rattle.sim_play.proofs.holdings.held_rooted.Given as goal
 
-abbrev pub invariant-loop-cell : goal.invariant-loop-cell
+abbrev pub invariant-loop-cell : Rattle.sim_play.proofs.holdings.held_rooted.Given.invariant-loop-cell
 invariant-loop-cell l =
     (player : ℕ) → player < 9
     → get_or l.tally player 0 ≡ count_by (λ (cell : ℕ × Bool). cell.0 == player && cell.1) (take l.cell (zip l.holders l.rooted))

@@ -1,9 +1,8 @@
 -- The line of one player more.
 use Rattle.sim_play.{proofs.PlayerLines.lines_more, specs.Realms.player_line}
 use Rattle.sim_play.proofs.Common.{◌≡◌, ℕ, ◌+◌, ◌-◌, ◌<◌, ◌++◌, get_or, string_bytes, flat_map, ap, arith, held, holding_line, range_with_len, ◌∙◌}
-use Rattle.sim_play.proofs.holdings.push_holdings.Goals as goal
 
-pub loop-player-preserved : goal.loop-player-preserved
+pub loop-player-preserved : Rattle.sim_play.proofs.holdings.push_holdings.Goals.loop-player-preserved
 loop-player-preserved c =
     let i = c.loop-player.invariant in
     let player = c.loop-player.player in

@@ -1,9 +1,8 @@
 -- There is a line for each player so far.
 use Rattle.sim_play.proofs.Common.{◌≡◌, ◌-◌, ◌≤◌, ◌++◌, string_bytes, flat_map, range_with_len}
 use Rattle.sim_play.specs.Realms.{player_line}
-use Rattle.sim_play.proofs.holdings.push_holdings.Given as goal
 
-abbrev pub invariant-loop-player : goal.invariant-loop-player
+abbrev pub invariant-loop-player : Rattle.sim_play.proofs.holdings.push_holdings.Given.invariant-loop-player
 invariant-loop-player l =
     record {
       begun : 1 ≤ l.player;

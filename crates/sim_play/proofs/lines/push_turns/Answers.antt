@@ -1,10 +1,9 @@
 -- One turn more is played, and has its line.
 use Rattle.sim_play.proofs.{Common.turn_line, Common.turn_lines, Common.◌∙◌, PlayLines.lines_more, Playing.next_number, Playing.one_turn_more}
 use Rattle.sim_play.proofs.Common.{◌≡◌, ℕ, suc, ◌+◌, ◌-◌, ◌++◌, string_bytes, codes, ap, arith, digest, from, IsValid, own_turns, Setup, State, subst, sym}
-use Rattle.sim_play.proofs.lines.push_turns.Goals as goal
 use Rattle.sim_board.proofs.Keeping.{kept_on}
 
-pub loop-turn-preserved : goal.loop-turn-preserved
+pub loop-turn-preserved : Rattle.sim_play.proofs.lines.push_turns.Goals.loop-turn-preserved
 loop-turn-preserved g c =
     let setup = c.args.board.now.setup.now in
     let start = c.args.board.now.state in

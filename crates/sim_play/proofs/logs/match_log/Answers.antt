@@ -1,7 +1,6 @@
 -- The turns are those of the match, each by its players.
-use Rattle.sim_play.specs.Playing.{HasPlayedBy}
-use Rattle.sim_play.proofs.LogTurns.{match_length, match_players, match_state}
-use Rattle.sim_play.proofs.Common.{All, AreFed, ap, arith, IsOrderOf, length, OnOk, State, state_after, subst, sym, systems_by, ◌∙◌}
+use Rattle.sim_play.proofs.Common.{◌∙◌, All, ap, AreFed, arith, IsOrderOf, length, OnOk, State, state_after, subst, sym, systems_by}
+use Rattle.sim_play.{proofs.LogTurns.match_length, proofs.LogTurns.match_players, proofs.LogTurns.match_state, specs.Playing.HasPlayedBy}
 use Rattle.sim_play.proofs.logs.match_log.Goals as goal
 
 pub log_after-requires-clause-few : goal.log_after-requires-clause-few

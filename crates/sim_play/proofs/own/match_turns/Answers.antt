@@ -1,8 +1,7 @@
 -- One turn more.
 use Rattle.sim_play.proofs.Common.{◌≡◌, ℕ, ◌+◌, List, [], ◌∷◌, ◌++◌, ap, arith, map-range_with_len_more, orders_at, PlayerCommand, sym, ◌∙◌}
-use Rattle.sim_play.proofs.own.match_turns.Goals as goal
 
-pub loop-before-preserved : goal.loop-before-preserved
+pub loop-before-preserved : Rattle.sim_play.proofs.own.match_turns.Goals.loop-before-preserved
 loop-before-preserved c =
     let own : ℕ → List PlayerCommand = λ t. orders_at t c.args.setup.now.commands in
     let n = c.loop-before.before in

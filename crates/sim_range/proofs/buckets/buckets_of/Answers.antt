@@ -1,8 +1,7 @@
 -- One entity more stands in its bucket.
 use Rattle.sim_range.proofs.{Changing.one_more_bucketed, Common.arith}
-use Rattle.sim_range.proofs.buckets.buckets_of.Goals as goal
 
-pub loop-fact-preserved : goal.loop-fact-preserved
+pub loop-fact-preserved : Rattle.sim_range.proofs.buckets.buckets_of.Goals.loop-fact-preserved
 loop-fact-preserved c = (
   c.change.ensures.whole,
   one_more_bucketed c.args.facts.now c.loop-fact.fact-index c.fact-item.result c.loop-fact.all.items c.make_room.new.buckets.items c.change.new.buckets.items

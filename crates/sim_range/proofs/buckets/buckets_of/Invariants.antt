@@ -1,5 +1,4 @@
 use Rattle.sim_range.proofs.Common.{◌≡◌, length, take, AreBuckets}
-use Rattle.sim_range.proofs.buckets.buckets_of.Given as goal
 
-abbrev pub invariant-loop-fact : goal.invariant-loop-fact
+abbrev pub invariant-loop-fact : Rattle.sim_range.proofs.buckets.buckets_of.Given.invariant-loop-fact
 invariant-loop-fact l = (length l.all.items ≡ 256) × AreBuckets (take l.fact-index l.facts) l.all.items

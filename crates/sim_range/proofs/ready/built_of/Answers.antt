@@ -1,7 +1,6 @@
 -- The buckets are those of the facts.
-use Rattle.sim_range.proofs.ready.built_of.Goals as goal
 
-pub sights_for-requires : goal.sights_for-requires
+pub sights_for-requires : Rattle.sim_range.proofs.ready.built_of.Goals.sights_for-requires
 sights_for-requires c = rw c.as_slice.ensures.value (record {
   holds = c.requires.holds;
   placed = c.requires.placed;

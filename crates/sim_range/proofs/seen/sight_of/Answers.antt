@@ -1,9 +1,8 @@
 -- Those who are near ascend.
 use Rattle.sim_range.proofs.{Common.IsStrictlyIncreasing, Common.rising, Common.subst, Common.sym, Common.◌∙◌, Seeing.chosen_ups, Turning.increasing}
 use Rattle.sim_range.proofs.Nearing.{near_by}
-use Rattle.sim_range.proofs.seen.sight_of.Goals as goal
 
-pub turn-requires-clause-ascending : goal.turn-requires-clause-ascending
+pub turn-requires-clause-ascending : Rattle.sim_range.proofs.seen.sight_of.Goals.turn-requires-clause-ascending
 turn-requires-clause-ascending c =
     subst IsStrictlyIncreasing (sym (c.into_items.ensures ∙ c.in_ok-near.ensures))
     (increasing _ (chosen_ups (near_by c.args.watcher.now.at c.in-Some.vision c.mask_of-mask.result) c.args.facts.now

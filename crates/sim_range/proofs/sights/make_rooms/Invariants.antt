@@ -1,7 +1,6 @@
 use Rattle.sim_range.proofs.Common.{◌≡◌, ℕ, length, take, HaveRooms, ids_at, Sight}
-use Rattle.sim_range.proofs.sights.make_rooms.Given as goal
 
-abbrev pub invariant-loop-watcher : goal.invariant-loop-watcher
+abbrev pub invariant-loop-watcher : Rattle.sim_range.proofs.sights.make_rooms.Given.invariant-loop-watcher
 invariant-loop-watcher l = record {
   along : length l.sights.items ≡ length l.initial.sights.items;
   same : (k : ℕ) (d : Sight) → ids_at l.sights.items k d ≡ ids_at l.initial.sights.items k d;

@@ -1,8 +1,7 @@
 use Rattle.sim_range.proofs.Common.{with_only}
 use Rattle.sim_range.proofs.Common.{◌≡◌, ℕ, ◌<◌, true, false, length, get_or, take, if◌then◌else◌, vec_len, vec_capacity, Fact, ids_at, is_among, Sight, sight}
-use Rattle.sim_range.proofs.sights.turn_all.Given as goal
 
-abbrev pub invariant-loop-watcher : goal.invariant-loop-watcher
+abbrev pub invariant-loop-watcher : Rattle.sim_range.proofs.sights.turn_all.Given.invariant-loop-watcher
 invariant-loop-watcher l = record {
   along : length l.sights.items ≡ length l.initial.sights.items;
   seen : (i : ℕ) (f : Fact) (d : Sight) → i < length l.facts →

@@ -1,5 +1,4 @@
 use Rattle.sim_range.proofs.Common.{IsPermutation, below_bucket, within_among}
-use Rattle.sim_range.proofs.within.within.Given as goal
 
-abbrev pub invariant-loop-number : goal.invariant-loop-number
+abbrev pub invariant-loop-number : Rattle.sim_range.proofs.within.within.Given.invariant-loop-number
 invariant-loop-number l = IsPermutation (within_among (below_bucket l.number l.facts) l.at l.radius l.mask) l.ids.items

@@ -1,8 +1,7 @@
 -- The lines are read as their parts are.
-use Rattle.std.specs.Option.{ok_or}
-use Rattle.sim_replay.proofs.Common.{◌≡◌, ℕ, Err, Some, None, Option, Result, ap, arith, cond-false, cond-true, Log, LogFault, log_in, Meets, nothing}
-use Rattle.sim_replay.proofs.Common.{or_refused, parts_of, read_parts, refl, subst, sym, ◌∙◌}
-use Rattle.sim_replay.{proofs.Parts.read_line, proofs.Parts.read_rest, proofs.Parts.refused_meets, proofs.Whole.last_of, specs.Meets.Tells}
+use Rattle.sim_replay.proofs.Common.{◌∙◌, ◌≡◌, ap, arith, cond-false, cond-true, Err, Log, log_in, LogFault, Meets, None, nothing, Option, or_refused, parts_of}
+use Rattle.sim_replay.proofs.{Common.read_parts, Common.refl, Common.Result, Common.Some, Common.subst, Common.sym, Common.ℕ, Parts.read_line, Parts.read_rest}
+use Rattle.{sim_replay.proofs.Parts.refused_meets, sim_replay.proofs.Whole.last_of, sim_replay.specs.Meets.Tells, std.specs.Option.ok_or}
 use Rattle.sim_replay.proofs.read.lines_of.Goals as goal
 
 log_meets : (found : Option Log) (fault : LogFault) (number : ℕ) → Tells fault number → Meets (ok_or found fault) (or_refused number found)

@@ -2,7 +2,6 @@
 use Rattle.std.{proofs.lemmas.Str.Parse.parse_digits, specs.Result.OkIff, specs.Str.Parse.ParsesUnsigned}
 use Rattle.sim_replay.proofs.Common.{natural_of, refl, result_ok, sym, ◌∙◌, ◌≡◌, ℕ, ◌^◌, ◌<◌, Bool, true, false, cond, ◌&&◌, ltb, List, length, Ok, Err, Some}
 use Rattle.sim_replay.proofs.Common.{None, Result, and_from, ap, are_numerals, below, cond-true, digits_value, is_digit, list_all, lt-ltb, ltb-true}
-use Rattle.sim_replay.proofs.words.natural.Goals as goal
 
 parsed : {E : Type 0} (text : List ℕ) (r : Result ℕ E) → list_all is_digit text ≡ true → ParsesUnsigned 32 10 text r → result_ok r ≡ natural_of text
 unfolding natural_of
@@ -24,5 +23,5 @@ parsed {E} text r digits h = by r (parse_digits are_numerals 32 text r h digits)
         ∙ sym (cond-true _ _ _ (and_from (list_all is_digit text) _ digits (lt-ltb 0 (length text) is.0.0)))
     by (Err fault) fails = sym (none (list_all is_digit text) (ltb 0 (length text)) (ltb value (2 ^ 32)) refl refl fails)
 
-pub returns-then-all_digits : goal.returns-then-all_digits
+pub returns-then-all_digits : Rattle.sim_replay.proofs.words.natural.Goals.returns-then-all_digits
 returns-then-all_digits c = c.ok.ensures.value ∙ parsed c.args.text.now c.parse.result (sym c.all_digits.ensures ∙ c.if-all_digits.true) c.parse.ensures.value.0

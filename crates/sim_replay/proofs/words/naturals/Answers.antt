@@ -1,9 +1,8 @@
 -- Nothing is found yet.
 use Rattle.sim_replay.proofs.Common.{◌≡◌, ℕ, List, [], ap, map, rules, word_text, ◌∙◌}
 use Rattle.sim_replay.proofs.Naturals.{behind_nothing, naturals_behind}
-use Rattle.sim_replay.proofs.words.naturals.Goals as goal
 
-pub loop-rest-init : goal.loop-rest-init
+pub loop-rest-init : Rattle.sim_replay.proofs.words.naturals.Goals.loop-rest-init
 loop-rest-init c =
     let words = map word_text c.args.words.now in
     let none : c.new-found.result.items ≡ [] = search rules in

@@ -1,10 +1,8 @@
 -- What is commanded stands behind the word and the turn.
-use Rattle.sim_report.proofs.Common.{◌≡◌, ◌++◌, codes, decimal, string_bytes}
-use Rattle.sim_report.proofs.Kept.{appended_pair, kept_in_parts}
-use Rattle.sim_report.specs.Downs.{order_text}
-use Rattle.sim_report.proofs.down.append_turn_order.Goals as goal
+use Rattle.sim_report.proofs.Common.{◌++◌, ◌≡◌, codes, decimal, string_bytes}
+use Rattle.sim_report.{proofs.Kept.appended_pair, proofs.Kept.kept_in_parts, specs.Downs.order_text}
 
-pub returns : goal.returns
+pub returns : Rattle.sim_report.proofs.down.append_turn_order.Goals.returns
 returns c =
     let old = string_bytes c.args.out.now in
     let first = string_bytes c.append_number.new.out in

@@ -1,6 +1,5 @@
 -- The text is cut where the old one ended.
 use Rattle.sim_report.proofs.Common.{IsSplitPoint-appended}
-use Rattle.sim_report.proofs.down.push_down.Goals as goal
 
-pub truncate-requires : goal.truncate-requires
+pub truncate-requires : Rattle.sim_report.proofs.down.push_down.Goals.truncate-requires
 truncate-requires c = λ _. IsSplitPoint-appended c.args.out.now c.append_down.new.out _ c.len-length.ensures c.in-Err.ensures.err

@@ -1,10 +1,8 @@
 -- The word, the turn and the digest stand one behind another.
-use Rattle.sim_report.proofs.Common.{◌≡◌, ◌++◌, string_bytes}
-use Rattle.sim_report.proofs.Kept.{appended, kept_in_parts}
+use Rattle.sim_report.proofs.{Common.◌++◌, Common.◌≡◌, Common.string_bytes, Kept.appended, Kept.kept_in_parts}
 use Rattle.sim_report.specs.Lines.{line_end, spaced_number}
-use Rattle.sim_report.proofs.line.append_turn.Goals as goal
 
-pub returns : goal.returns
+pub returns : Rattle.sim_report.proofs.line.append_turn.Goals.returns
 returns c =
     let old = string_bytes c.args.out.now in
     let first = string_bytes c.push_str.new.self in

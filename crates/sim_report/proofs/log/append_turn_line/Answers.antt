@@ -1,9 +1,8 @@
 -- The parts of the line stand behind the old text.
 use Rattle.std.{proofs.Common.append_assoc, proofs.Common.◌++◌, specs.Prelude.codes, specs.Prelude.string_bytes}
 use Rattle.sim_report.specs.Lines.{spaced_number}
-use Rattle.sim_report.proofs.log.append_turn_line.Goals as goal
 
-pub returns : goal.returns
+pub returns : Rattle.sim_report.proofs.log.append_turn_line.Goals.returns
 returns c =
     let old = string_bytes c.args.out.now in
     let front = append_assoc old (codes "differ turn") (spaced_number c.args.turn) in

@@ -1,6 +1,5 @@
 -- The text is cut where the old one ended.
 use Rattle.sim_report.proofs.Common.{IsSplitPoint-appended}
-use Rattle.sim_report.proofs.log.push_agree.Goals as goal
 
-pub truncate-requires : goal.truncate-requires
+pub truncate-requires : Rattle.sim_report.proofs.log.push_agree.Goals.truncate-requires
 truncate-requires c = λ _. IsSplitPoint-appended c.args.out.now c.append_agree.new.out _ c.len-before.ensures c.in-Err.ensures.err

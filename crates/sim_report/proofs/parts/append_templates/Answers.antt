@@ -1,8 +1,7 @@
 -- The line of one template more stands behind those so far.
 use Rattle.sim_report.proofs.{Common.◌<◌, Common.length, Common.string_bytes, Common.rules, TemplateLines.parts_more}
-use Rattle.sim_report.proofs.parts.append_templates.Goals as goal
 
-pub loop-number-preserved : goal.loop-number-preserved
+pub loop-number-preserved : Rattle.sim_report.proofs.parts.append_templates.Goals.loop-number-preserved
 loop-number-preserved c =
     let l = c.loop-number in
     let templates = c.args.templates.now in

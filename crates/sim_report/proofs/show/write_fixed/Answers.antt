@@ -1,8 +1,7 @@
 -- The word stands behind the old text, and then the number.
 use Rattle.sim_report.proofs.Kept.{appended, kept}
-use Rattle.sim_report.proofs.show.write_fixed.Goals as goal
 
-pub returns : goal.returns
+pub returns : Rattle.sim_report.proofs.show.write_fixed.Goals.returns
 returns c =
     let word_is = c.in_ok-push_str.ensures.bytes in
     record {

@@ -1,7 +1,6 @@
 use Rattle.sim_search.proofs.{Common.◌≡◌, Common.true, Common.arith, Common.rules, Draining.ready_passed}
-use Rattle.sim_search.proofs.drain.passed.Goals as goal
 
-pub loop-idle-preserved : goal.loop-idle-preserved
+pub loop-idle-preserved : Rattle.sim_search.proofs.drain.passed.Goals.loop-idle-preserved
 loop-idle-preserved c =
     let v = c.loop-idle.invariant in
     let none : c.is_empty.result ≡ true = search rules in

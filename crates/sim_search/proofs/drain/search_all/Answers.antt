@@ -1,6 +1,5 @@
 -- An estimate that tells nothing guides each search.
 use Rattle.sim_search.proofs.{Common.field_of_grid, Guiding.nothing-guides}
-use Rattle.sim_search.proofs.drain.search_all.Goals as goal
 
-pub started-requires-clause-guide : goal.started-requires-clause-guide
+pub started-requires-clause-guide : Rattle.sim_search.proofs.drain.search_all.Goals.started-requires-clause-guide
 started-requires-clause-guide c = nothing-guides (field_of_grid c.args.grid.now) c.args.start

@@ -1,9 +1,8 @@
 -- The costs from an open cell are the distances to it.
 use Rattle.sim_search.proofs.{Common.Cell, Common.cost_in, Common.field_of_grid, Guiding.numbers-distances, Guiding.same-distances}
-use Rattle.sim_search.proofs.goal.distances_to.Goals as goal
 use Rattle.sim_search.specs.{Distances.number_in, Rows.number_of}
 
-pub returns-clause-distances : goal.returns-clause-distances
+pub returns-clause-distances : Rattle.sim_search.proofs.goal.distances_to.Goals.returns-clause-distances
 returns-clause-distances c =
     let field = field_of_grid c.args.grid.now in
     let cost = cost_in c.in_ok-search.search.costs in

@@ -1,5 +1,4 @@
 use Rattle.sim_search.proofs.Regions.{labels-tell}
-use Rattle.sim_search.proofs.laws.labels_tell.Goals as goal
 
-pub returns : goal.returns
+pub returns : Rattle.sim_search.proofs.laws.labels_tell.Goals.returns
 returns c = labels-tell

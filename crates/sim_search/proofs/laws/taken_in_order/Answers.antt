@@ -1,5 +1,4 @@
 use Rattle.sim_search.proofs.Taking.{taken-before}
-use Rattle.sim_search.proofs.laws.taken_in_order.Goals as goal
 
-pub returns : goal.returns
+pub returns : Rattle.sim_search.proofs.laws.taken_in_order.Goals.returns
 returns c = taken-before

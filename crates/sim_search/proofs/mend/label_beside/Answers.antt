@@ -1,8 +1,7 @@
 -- The cell beside it has the label that is answered.
 use Rattle.sim_search.proofs.Common.{sym, ◌∙◌}
-use Rattle.sim_search.proofs.mend.label_beside.Goals as goal
 
-pub returns-then-is_some : goal.returns-then-is_some
+pub returns-then-is_some : Rattle.sim_search.proofs.mend.label_beside.Goals.returns-then-is_some
 returns-then-is_some c = λ l e. record {
   which = c.loop-which.which;
   straight = c.loop-which-test.true;

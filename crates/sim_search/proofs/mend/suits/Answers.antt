@@ -1,7 +1,6 @@
 use Rattle.sim_search.proofs.Common.{arith}
-use Rattle.sim_search.proofs.mend.suits.Goals as goal
 
-pub returns : goal.returns
+pub returns : Rattle.sim_search.proofs.mend.suits.Goals.returns
 returns c = λ e. record {
   room = c.has.ensures.0 c.if-not-has.false;
   least = omega (arith, c.place_in.ensures, c.if-place_in-label.false);

@@ -1,6 +1,5 @@
 use Rattle.sim_search.proofs.Common.{inr, subst, ◌∙◌}
 use Rattle.sim_search.proofs.Common.{◌≡◌, ℕ, ◌+◌, ◌<◌, ◌≤◌, ◌⊎◌, List, [], length, get_or, set, arith, cases_lt, Cell, get_or-set_other, get_or-set_same, inl}
-use Rattle.sim_search.proofs.queue.empty_all.Goals as goal
 
 -- where all buckets before one are empty, and it is emptied, all before the next are empty
 emptied_more : (xs : List (List Cell)) (b : ℕ) (new : List Cell) → new ≡ [] → b < length xs → ((k : ℕ) → k < b → get_or xs k [] ≡ []) → (k : ℕ) → k < b + 1
@@ -11,7 +10,7 @@ emptied_more xs b new e within before k less = by (cases_lt k b)
     by (inl lt) = get_or-set_other xs b k new [] (λ f. omega (arith, f, lt)) ∙ before k lt
     by (inr le) = subst (λ (j : ℕ). get_or (set xs b new) j [] ≡ []) (omega arith) (get_or-set_same xs b new [] within ∙ e)
 
-pub loop-b-preserved : goal.loop-b-preserved
+pub loop-b-preserved : Rattle.sim_search.proofs.queue.empty_all.Goals.loop-b-preserved
 loop-b-preserved c =
     let within : c.loop-b.b < length c.loop-b.buckets.items = omega (arith, c.loop-b.invariant.ring, c.loop-b.buckets.ok.0, c.loop-b-test.true) in
     record {

@@ -1,5 +1,4 @@
 use Rattle.sim_search.proofs.Common.{◌≡◌, [], replicate}
-use Rattle.sim_search.proofs.queue.empty_ring.Given as goal
 
-abbrev pub invariant-loop : goal.invariant-loop
+abbrev pub invariant-loop : Rattle.sim_search.proofs.queue.empty_ring.Given.invariant-loop
 invariant-loop l = l.buckets.items ≡ replicate l.counter []

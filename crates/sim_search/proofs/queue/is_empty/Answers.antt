@@ -1,7 +1,6 @@
 use Rattle.sim_search.proofs.Common.{◌≡◌, ℕ, ◌%◌, ◌<◌, [], length, get_or, ap, arith, bucket_in, eq-eqb, eqb-true, get_or_default, nil_from_length, sym, ◌∙◌}
-use Rattle.sim_search.proofs.queue.is_empty.Goals as goal
 
-pub returns : goal.returns
+pub returns : Rattle.sim_search.proofs.queue.is_empty.Goals.returns
 returns c =
     let s = c.args.search.now in
     let cells = c.as_slice.result.now in

@@ -1,9 +1,8 @@
 use Rattle.sim_search.proofs.Cells.{entry_at-on, entry_at-set_other, entry_at-set_same}
 use Rattle.sim_search.proofs.Common.{entry_at, eq-eqb, length-map, map-set, size_of, sum_by-set, sym, takens, ◌∙◌}
 use Rattle.sim_search.proofs.Common.{◌≡◌, ℕ, ◌*◌, ◌<◌, Bool, true, false, cond, not, eqb, List, map, length, get_or, set, sum_by, refl, ap, arith, Cell}
-use Rattle.sim_search.proofs.queue.take.Goals as goal
 
-pub returns : goal.returns
+pub returns : Rattle.sim_search.proofs.queue.take.Goals.returns
 returns c =
     let old = c.args.search.now in
     let is_now : ℕ → Bool = λ t. eqb t old.costs.stamp in

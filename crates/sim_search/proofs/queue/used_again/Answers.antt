@@ -1,8 +1,7 @@
 use Rattle.sim_search.proofs.Beginning.{entry_at-all}
 use Rattle.sim_search.proofs.Common.{◌≡◌, ℕ, ◌≤◌, false, nat_eq, All, refl, All-weaker, arith, ne_eqb, size_of}
-use Rattle.sim_search.proofs.queue.used_again.Goals as goal
 
-pub returns : goal.returns
+pub returns : Rattle.sim_search.proofs.queue.used_again.Goals.returns
 returns c =
     let old = c.args.rooms in
     let now = c.forget.new.self.stamp in

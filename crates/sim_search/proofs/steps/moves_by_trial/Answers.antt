@@ -1,8 +1,7 @@
 use Rattle.sim_search.proofs.Common.{ℕ, ◌+◌, Bool, is_some, AreBits, bits_more, bits_past, field_of_grid, step_to, subst, sym, ◌∙◌}
 use Rattle.sim_search.proofs.steps.moves_by_trial.Goals.{else-is_allowed, then-is_allowed}
-use Rattle.sim_search.proofs.steps.moves_by_trial.Goals as goal
 
-pub loop-which-preserved : goal.loop-which-preserved
+pub loop-which-preserved : Rattle.sim_search.proofs.steps.moves_by_trial.Goals.loop-which-preserved
 loop-which-preserved c =
     let test : ℕ → Bool = λ j. is_some (step_to (field_of_grid c.args.grid.now) c.args.start c.args.from j) in
     let n = c.loop-which.which in

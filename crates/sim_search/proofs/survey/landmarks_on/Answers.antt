@@ -1,9 +1,8 @@
 -- Rows that tell nothing are landmarks, and stay so as each is set.
 use Rattle.sim_search.proofs.{Common.Cell, Common.cost_in, Common.field_of_grid, Common.◌∙◌, Guiding.alike-landmarks, Guiding.same-landmarks}
-use Rattle.sim_search.proofs.survey.landmarks_on.Goals as goal
 use Rattle.sim_search.specs.Rows.{alike, row_in}
 
-pub loop-which-init : goal.loop-which-init
+pub loop-which-init : Rattle.sim_search.proofs.survey.landmarks_on.Goals.loop-which-init
 loop-which-init c =
     let field = field_of_grid c.args.grid.now in
     let cost = cost_in c.in_ok-costs.costs in

@@ -1,9 +1,8 @@
 -- The costs from an open cell make a landmark.
 use Rattle.sim_search.proofs.{Common.Cell, Common.cost_in, Common.field_of_grid, Guiding.same-landmarks, Guiding.set-landmarks}
-use Rattle.sim_search.proofs.survey.set_to.Goals as goal
 use Rattle.sim_search.specs.Rows.{row_in, row_with}
 
-pub returns-clause-landmarks : goal.returns-clause-landmarks
+pub returns-clause-landmarks : Rattle.sim_search.proofs.survey.set_to.Goals.returns-clause-landmarks
 returns-clause-landmarks c =
     let field = field_of_grid c.args.grid.now in
     let cost = cost_in c.in_ok-costs.costs in

@@ -1,7 +1,6 @@
 -- The server hears what a client said; systems are built by loads alone; and a step that is not enabled comes to an end.
-use Rattle.sim_session.proofs.{Acted.acted, Beside.unbuilt, Beside.up_makes, Common.sym}
-use Rattle.sim_session.proofs.Common.{anyway, IfOk, IsOk, refl, client_of, events_by, has_load}
-use Rattle.sim_session.proofs.Common.{IsClient, life_at, LoadsBy, Makes, MayHearBy, rules, Step, subst}
+use Rattle.sim_session.proofs.{Acted.acted, Beside.unbuilt, Beside.up_makes, Common.anyway}
+use Rattle.sim_session.proofs.Common.{client_of, events_by, has_load, IfOk, IsClient, IsOk, life_at, LoadsBy, Makes, MayHearBy, refl, rules, Step, subst, sym}
 use Rattle.sim_session.proofs.Idling.{bend_idle, cut_idle, down_idle, join_idle, order_idle, play_idle, up_idle, WhereIdle}
 use Rattle.sim_session.proofs.acting.act.Goals as goal
 

@@ -1,8 +1,7 @@
 -- A client that is not off is off then, and the server saw it.
 use Rattle.sim_session.proofs.{Beside.cut_makes, Beside.then_ok, Common.life_at, Common.rules, Common.sym, Common.◌∙◌}
-use Rattle.sim_session.proofs.acting.cut.Goals as goal
 
-pub returns-clause-acts : goal.returns-clause-acts
+pub returns-clause-acts : Rattle.sim_session.proofs.acting.cut.Goals.returns-clause-acts
 returns-clause-acts g c =
     let client = c.args.client.now in
     let new = c.cut.new.self in

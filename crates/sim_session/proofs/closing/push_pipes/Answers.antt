@@ -1,9 +1,8 @@
 -- The lines of one client more stand behind those so far.
 use Rattle.sim_session.proofs.TextCommon.{◌≡◌, ℕ, ◌+◌, List, ◌++◌, string_bytes, codes, append_assoc, pipe_in, pipe_line}
 use Rattle.sim_session.proofs.Telling.{told_more}
-use Rattle.sim_session.proofs.closing.push_pipes.Goals as goal
 
-pub loop-before-preserved : goal.loop-before-preserved
+pub loop-before-preserved : Rattle.sim_session.proofs.closing.push_pipes.Goals.loop-before-preserved
 loop-before-preserved c =
     let held = c.args.exchange.now in
     let old = string_bytes c.loop-before.out in

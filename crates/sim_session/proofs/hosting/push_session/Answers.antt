@@ -1,9 +1,7 @@
 -- What is printed of the whole session.
-use Rattle.sim_session.proofs.Beside.{then_on}
-use Rattle.sim_session.proofs.{HostTelling.told_whole, Stopping.built_at_start, Stopping.built_with_steps}
-use Rattle.sim_session.proofs.TextCommon.{loads_in, opened, seen_in, session_text, Setup, subst, sym, systems_by, systems_on, ◌∙◌}
-use Rattle.sim_session.proofs.TextCommon.{◌++◌, length, string_bytes, All, AllBuiltAtMost, ap, ending_seen, events_after, IsMember, length-map, life_at}
-use Rattle.sim_session.proofs.{Common.anyway, Keeping.keeps_on, TextCommon.rules, TextCommon.session_of, TextCommon.StandsFor}
+use Rattle.sim_session.proofs.{Beside.then_on, Common.anyway, HostTelling.told_whole, Keeping.keeps_on, Stopping.built_at_start, Stopping.built_with_steps}
+use Rattle.sim_session.proofs.TextCommon.{◌++◌, ◌∙◌, All, AllBuiltAtMost, ap, ending_seen, events_after, IsMember, length, length-map, life_at, loads_in}
+use Rattle.sim_session.proofs.TextCommon.{opened, rules, seen_in, session_of, session_text, Setup, StandsFor, string_bytes, subst, sym, systems_by, systems_on}
 use Rattle.sim_session.proofs.hosting.push_session.Goals as goal
 
 pub push_ending-requires-clause-clients : goal.push_ending-requires-clause-clients

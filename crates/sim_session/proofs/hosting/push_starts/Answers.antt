@@ -1,9 +1,8 @@
 -- The line of one client more stands behind those so far.
 use Rattle.sim_session.proofs.{Beginning.start_shown, Beginning.starts_more, TextCommon.start_events, TextCommon.start_lines}
 use Rattle.sim_session.proofs.TextCommon.{◌+◌, ◌<◌, [], Some, string_bytes, after, append_assoc, arith, digest, life_of, lines_of, rules, seen_in}
-use Rattle.sim_session.proofs.hosting.push_starts.Goals as goal
 
-pub loop-before-preserved : goal.loop-before-preserved
+pub loop-before-preserved : Rattle.sim_session.proofs.hosting.push_starts.Goals.loop-before-preserved
 loop-before-preserved g c =
     let session = c.args.session.now in
     let setup = session.setup.now in

@@ -1,6 +1,5 @@
 -- A lemma.
 use Rattle.sim_session.proofs.Seeing.{endings_same}
-use Rattle.sim_session.proofs.laws.endings_are_seen.Goals as goal
 
-pub returns : goal.returns
+pub returns : Rattle.sim_session.proofs.laws.endings_are_seen.Goals.returns
 returns c = endings_same

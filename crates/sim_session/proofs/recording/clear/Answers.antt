@@ -1,8 +1,7 @@
 -- One rig more has forgotten all.
-use Rattle.{sim_session.specs.SessionWords.rigs_by, sim_system.specs.RigWords.systems_by}
-use Rattle.std.proofs.{Math.ListN.set, lemmas.List.drop-set-lt, lemmas.List.length-set}
-use Rattle.sim_session.proofs.Clearing.{cleared_more, kinds_more, next_cleared, unbuilt_more}
-use Rattle.sim_session.proofs.TextCommon.{◌<◌, length, arith, length-map, rules, ◌∙◌}
+use Rattle.sim_session.proofs.{Clearing.cleared_more, Clearing.kinds_more, Clearing.next_cleared, Clearing.unbuilt_more, TextCommon.◌<◌, TextCommon.◌∙◌}
+use Rattle.sim_session.{proofs.TextCommon.arith, proofs.TextCommon.length, proofs.TextCommon.length-map, proofs.TextCommon.rules, specs.SessionWords.rigs_by}
+use Rattle.{sim_system.specs.RigWords.systems_by, std.proofs.Math.ListN.set, std.proofs.lemmas.List.drop-set-lt, std.proofs.lemmas.List.length-set}
 use Rattle.sim_session.proofs.recording.clear.Goals as goal
 
 pub loop-i-preserved : goal.loop-i-preserved

@@ -1,7 +1,6 @@
 -- The commands of the released turns, after the beginning and all steps.
-use Rattle.sim_session.proofs.{Stopping.built_at_start, Stopping.built_with_steps}
-use Rattle.sim_session.proofs.TextCommon.{loads_in, opened, Setup, subst, systems_by, systems_on, ◌∙◌, AllBuiltAtMost, events_after, length-map}
-use Rattle.sim_session.proofs.Keeping.{keeps_on}
+use Rattle.sim_session.proofs.{Keeping.keeps_on, Stopping.built_at_start, Stopping.built_with_steps}
+use Rattle.sim_session.proofs.TextCommon.{◌∙◌, AllBuiltAtMost, events_after, length-map, loads_in, opened, Setup, subst, systems_by, systems_on}
 use Rattle.sim_session.proofs.recording.record.Goals as goal
 
 pub returns-in_err-start-clause-built : goal.returns-in_err-start-clause-built

@@ -1,8 +1,7 @@
 -- The first rig is cleared and complete, and its client is one of the match.
-use Rattle.{sim_session.proofs.Seating.holds_there, sim_system.specs.RigWords.systems_by as rig_by}
-use Rattle.sim_session.proofs.{Common.ap, Common.life_at, Common.lives_of, Common.map-append, Common.rigs_by, Common.systems_by, Common.systems_on, Common.◌∙◌}
-use Rattle.sim_session.proofs.{Common.drop, Moving.moved_first}
-use Rattle.sim_session.proofs.Common.{◌≡◌, ◌++◌, [], ◌∷◌, All-append, All-cons, All-nil, AreCleared, AreMembersBy, HaveKinds, IsMemberBy, rules, subst, sym}
+use Rattle.sim_session.proofs.Common.{[], ◌++◌, ◌∙◌, ◌∷◌, ◌≡◌, All-append, All-cons, All-nil, ap, AreCleared, AreMembersBy, drop, HaveKinds, IsMemberBy}
+use Rattle.sim_session.proofs.Common.{life_at, lives_of, map-append, rigs_by, rules, subst, sym, systems_by, systems_on}
+use Rattle.{sim_session.proofs.Moving.moved_first, sim_session.proofs.Seating.holds_there, sim_system.specs.RigWords.systems_by as rig_by}
 use Rattle.sim_session.proofs.rigs.seat_one.Goals as goal
 
 pub new-client-requires-clause-kinds : goal.new-client-requires-clause-kinds

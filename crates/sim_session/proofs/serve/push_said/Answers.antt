@@ -3,9 +3,8 @@ use Rattle.{sim_lists.specs.Arrivals.plain_arrival, std.specs.Prelude.string_byt
 use Rattle.std.proofs.Common.{◌≡◌, [], ◌∷◌, map, length, ap, append_assoc, arith, sym, ◌∙◌}
 use Rattle.sim_plain.specs.{Posts.posts_of, Server.server_after, declared.rules.Rules.Rules}
 use Rattle.sim_session.{proofs.Histories.history_more, proofs.Histories.said_more, specs.Served.history}
-use Rattle.sim_session.proofs.serve.push_said.Goals as goal
 
-pub loop-arrival-preserved : goal.loop-arrival-preserved
+pub loop-arrival-preserved : Rattle.sim_session.proofs.serve.push_said.Goals.loop-arrival-preserved
 loop-arrival-preserved c =
     let at = c.loop-arrival in
     let x = c.in-Some.arrival in

@@ -2,9 +2,8 @@
 use Rattle.{sim_lists.specs.Arrivals.plain_arrival, std.specs.Prelude.string_bytes, std.specs.Vec.Iter.into_iter_items, std.specs.Vec.Iter.into_iter_len}
 use Rattle.{sim_plain.specs.Messages.Arrival, sim_session.specs.Served.history, sim_session.specs.Served.said_lines, sim_server.specs.Standing.StandsFor}
 use Rattle.std.proofs.Common.{◌≡◌, ℕ, List, ◌++◌, map, length}
-use Rattle.sim_session.proofs.serve.push_said.Given as goal
 
-abbrev pub invariant-loop-arrival : goal.invariant-loop-arrival
+abbrev pub invariant-loop-arrival : Rattle.sim_session.proofs.serve.push_said.Given.invariant-loop-arrival
 invariant-loop-arrival l = record {
   whole : l.yielded ++ into_iter_items l.arrival-iterator ≡ l.fn.arrivals;
   left : into_iter_len l.arrival-iterator ≡ length (into_iter_items l.arrival-iterator);

@@ -1,5 +1,4 @@
 use Rattle.sim_session_laws.proofs.QuietFacts as facts
-use Rattle.sim_session_laws.proofs.reports.notices_need_bends.Goals as goal
 
-pub returns : goal.returns
+pub returns : Rattle.sim_session_laws.proofs.reports.notices_need_bends.Goals.returns
 returns c = facts.notices_need_bends

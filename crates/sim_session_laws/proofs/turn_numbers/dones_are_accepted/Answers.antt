@@ -1,8 +1,7 @@
 use Rattle.sim_session_laws.proofs.{Common.DonesAreCounted, Common.DonesAreNear, Common.DonesAreTurns, Common.DonesGoOn, Common.StateHasDone, Fitting.always}
 use Rattle.sim_session_laws.proofs.TurnNumberFacts.{dones_are_counted, dones_are_near, dones_are_turns, dones_go_on, state_has_done}
-use Rattle.sim_session_laws.proofs.turn_numbers.dones_are_accepted.Goals as goal
 
-pub returns : goal.returns
+pub returns : Rattle.sim_session_laws.proofs.turn_numbers.dones_are_accepted.Goals.returns
 returns c =
     record {
       turns = always DonesAreTurns dones_are_turns;

@@ -1,9 +1,8 @@
 -- The place of the command is below their number.
 use Rattle.sim_setup.proofs.Common.{◌≡◌, List, Some, ap, arith, falls_at, sym, Timed, ◌∙◌}
 use Rattle.sim_setup.proofs.Falls.{falls_within}
-use Rattle.sim_setup.proofs.commands.in_order.Goals as goal
 
-pub returns-in-Some-clause-memory : goal.returns-in-Some-clause-memory
+pub returns-in-Some-clause-memory : Rattle.sim_setup.proofs.commands.in_order.Goals.returns-in-Some-clause-memory
 returns-in-Some-clause-memory c = λ few gone.
     let fallen : falls_at 0 0 c.args.commands ≡ Some c.in-Some.index = ap (λ (ts : List Timed). falls_at 0 0 ts) (sym c.as_slice.ensures) ∙
     sym c.in-Some.ensures in

@@ -1,6 +1,5 @@
 use Rattle.sim_setup.proofs.{Common.arith, Tally.counts_one}
-use Rattle.sim_setup.proofs.crowd.count_one.Goals as goal
 
-pub returns-then-count-lt-MOST : goal.returns-then-count-lt-MOST
+pub returns-then-count-lt-MOST : Rattle.sim_setup.proofs.crowd.count_one.Goals.returns-then-count-lt-MOST
 returns-then-count-lt-MOST c = counts_one c.args.counts.now c.args.turn c.args.player c.requires.player (omega (arith, c.requires.covers, c.requires.player))
     c.if-count-lt-MOST.true

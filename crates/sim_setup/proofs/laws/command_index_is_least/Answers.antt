@@ -1,5 +1,4 @@
 use Rattle.sim_setup.proofs.Common.{[], is_least, timed_of}
-use Rattle.sim_setup.proofs.laws.command_index_is_least.Goals as goal
 
-pub returns : goal.returns
+pub returns : Rattle.sim_setup.proofs.laws.command_index_is_least.Goals.returns
 returns c = λ turns players ds i refused. is_least (timed_of turns players) [] ds i refused

@@ -1,8 +1,7 @@
 -- One item more.
 use Rattle.std.proofs.{Common.arith, Common.rules, lemmas.Grind.common_steps}
-use Rattle.sim_setup.proofs.sources.sources_from.Goals as goal
 
-pub loop-rest-preserved : goal.loop-rest-preserved
+pub loop-rest-preserved : Rattle.sim_setup.proofs.sources.sources_from.Goals.loop-rest-preserved
 loop-rest-preserved c = record {
   same = grind (arith, common_steps);
   ready = search rules;

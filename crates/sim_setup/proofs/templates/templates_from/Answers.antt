@@ -1,9 +1,8 @@
 use Rattle.{sim_setup.proofs.TemplateLimits.more_read, std.proofs.Common.IfSome, std.proofs.lemmas.List.drop_more, std.proofs.lemmas.List.Elements.All-push}
 use Rattle.sim_setup.proofs.Common.{next_template, numbered, origin_of, rules, Source, subst, sym, Template, template_at, ◌∙◌}
 use Rattle.sim_setup.proofs.Common.{◌≡◌, ◌+◌, List, [], ◌∷◌, ◌++◌, map, length, drop, Some, Option, ap, arith, IsTemplate, length-map, length_push, name_in}
-use Rattle.sim_setup.proofs.templates.templates_from.Goals as goal
 
-pub loop-number-preserved : goal.loop-number-preserved
+pub loop-number-preserved : Rattle.sim_setup.proofs.templates.templates_from.Goals.loop-number-preserved
 loop-number-preserved c =
     let l = c.loop-number in
     let names = c.args.library.now.names in

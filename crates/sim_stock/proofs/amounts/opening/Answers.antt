@@ -1,8 +1,7 @@
 -- Each amount is the one of its place.
 use Rattle.sim_stock.proofs.Common.{◌≡◌, ℕ, map, arith, fill_by_all, range_with_len, rate_at}
-use Rattle.sim_stock.proofs.amounts.opening.Goals as goal
 
-pub returns : goal.returns
+pub returns : Rattle.sim_stock.proofs.amounts.opening.Goals.returns
 returns c =
     let pairs = c.args.pairs.now in
     let i = c.loop-place.invariant in

@@ -1,9 +1,8 @@
 -- Named rates within the limit make rates within it.
 use Rattle.sim_stock.proofs.Common.{List, length, All, ap, IsRate, NamedRate, rates_of, subst, sym, ◌∙◌}
 use Rattle.sim_stock.proofs.RateLimits.{rates_limits}
-use Rattle.sim_stock.proofs.amounts.rates_in.Goals as goal
 
-pub returns-clause-limits : goal.returns-clause-limits
+pub returns-clause-limits : Rattle.sim_stock.proofs.amounts.rates_in.Goals.returns-clause-limits
 returns-clause-limits c =
     let count = length c.args.templates.now in
     let all : All (λ (n : NamedRate). IsRate c.args.limit n.rate) c.in-Some-2.named.items = rw c.in-Some-2.is at c.in_ok-named.ensures.limits in

@@ -1,9 +1,8 @@
 -- One more piece written keeps the invariant: the beginning of the bytes grows by what the shelf took.
 use Rattle.std.proofs.Common.{arith, length-drop, ◌∙◌}
 use Rattle.sim_store.proofs.Pieces.{Appends-more, HeldSet-HeldGrows}
-use Rattle.sim_store.proofs.write.fill.Goals as goal
 
-pub loop-done-preserved : goal.loop-done-preserved
+pub loop-done-preserved : Rattle.sim_store.proofs.write.fill.Goals.loop-done-preserved
 loop-done-preserved g c =
     let step = c.in_ok-done.ensures in
     let before = c.loop-done.invariant in

@@ -1,7 +1,6 @@
 -- Bytes that are no log are refused at a line.
 use Rattle.sim_replay.specs.{Logs.IsRefusedAt, declared.fault.LogFault.LogFault}
 use Rattle.sim_top.proofs.Common.{◌≡◌, ℕ, List, Ok, Err, Result, refl, ap, Log, rules, Setup, Stop, subst, sym}
-use Rattle.sim_top.proofs.inputs.log_from.Goals as goal
 use Rattle.sim_top.specs.Stops.{log_stop, ReadsLog}
 use Rattle.sim_replay.specs.declared.fault.LogFault.TheVariants as logged
 
@@ -10,7 +9,7 @@ refused_so : (fault : LogFault) (setup : Setup) (bytes : List ℕ) → ((line : 
 refused_so (logged.Refused line) setup bytes refused = record { line = line; refused = refused line refl; ended = refl }
 refused_so logged.OutOfMemory setup bytes refused = tt
 
-pub returns-in_err-log_of-clause-tells : goal.returns-in_err-log_of-clause-tells
+pub returns-in_err-log_of-clause-tells : Rattle.sim_top.proofs.inputs.log_from.Goals.returns-in_err-log_of-clause-tells
 returns-in_err-log_of-clause-tells c =
     let fault = c.in_err-log_of.field-0.0 in
     let is : c.from_residual.result ≡ Err (log_stop fault) = search rules in

@@ -1,9 +1,8 @@
 -- The text of the trial is read as a match file is.
 use Rattle.{sim_top.specs.Stops.Reads, sim_trial.specs.Trial.text_of_trial}
 use Rattle.sim_top.proofs.Common.{◌≡◌, ℕ, List, ap, setup_by, setup_of, subst, trial_match, ◌∙◌}
-use Rattle.sim_top.proofs.inputs.trial_match.Goals as goal
 
-pub returns-clause-tells : goal.returns-clause-tells
+pub returns-clause-tells : Rattle.sim_top.proofs.inputs.trial_match.Goals.returns-clause-tells
 unfolding trial_match
 returns-clause-tells c =
     let text : c.deref.result.now ≡ text_of_trial c.args.seed c.args.units c.args.turns =

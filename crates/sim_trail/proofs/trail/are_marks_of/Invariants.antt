@@ -1,5 +1,4 @@
 use Rattle.{sim_trail.specs.Marks.mark_of, std.proofs.Common.◌≡◌, std.proofs.Common.map, std.proofs.Common.take}
-use Rattle.sim_trail.proofs.trail.are_marks_of.Given as goal
 
-abbrev pub invariant-loop-at : goal.invariant-loop-at
+abbrev pub invariant-loop-at : Rattle.sim_trail.proofs.trail.are_marks_of.Given.invariant-loop-at
 invariant-loop-at l = take l.at l.marks ≡ map mark_of (take l.at l.rows)

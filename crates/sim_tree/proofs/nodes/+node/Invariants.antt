@@ -1,8 +1,7 @@
 use Rattle.sim_tree.proofs.Ascends.{all_sound, ascends, keys_in, name_of}
 use Rattle.sim_tree.proofs.Common.{◌≡◌, true, false, ◌++◌, map, are_members, begin_well, members_view, named_in, named_of}
-use Rattle.sim_tree.proofs.nodes.+node.Given as goal
 
-abbrev pub invariant-read_children-loop-key : goal.invariant-read_children-loop-key
+abbrev pub invariant-read_children-loop-key : Rattle.sim_tree.proofs.nodes.+node.Given.invariant-read_children-loop-key
 invariant-read_children-loop-key l = record {
   fit : are_members (members_view l.fn.members.entries) ≡ are_members (members_view l.key-iterator);
   early : begin_well (members_view l.fn.members.entries) ≡ false → begin_well (members_view l.key-iterator) ≡ false;

@@ -1,5 +1,4 @@
 use Rattle.sim_tree.proofs.Common.{◌≡◌, ◌+◌, if◌then◌else◌, marks_in, members_view}
-use Rattle.sim_tree.proofs.nodes.has_few_marks.Given as goal
 
-abbrev pub invariant-loop-key : goal.invariant-loop-key
+abbrev pub invariant-loop-key : Rattle.sim_tree.proofs.nodes.has_few_marks.Given.invariant-loop-key
 invariant-loop-key l = marks_in (members_view l.fn.members.entries) ≡ marks_in (members_view l.key-iterator) + (if l.seen then 1 else 0)

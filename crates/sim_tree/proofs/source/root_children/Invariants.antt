@@ -1,8 +1,7 @@
 use Rattle.sim_tree.proofs.Ascends.{all_sound, ascends, keys_in, name_of}
 use Rattle.sim_tree.proofs.Common.{◌≡◌, true, false, ◌++◌, map, are_root_members, begin_root, members_view, named_in, named_of}
-use Rattle.sim_tree.proofs.source.root_children.Given as goal
 
-abbrev pub invariant-loop-key : goal.invariant-loop-key
+abbrev pub invariant-loop-key : Rattle.sim_tree.proofs.source.root_children.Given.invariant-loop-key
 invariant-loop-key l = record {
   fit : are_root_members (members_view l.fn.members.entries) ≡ are_root_members (members_view l.key-iterator);
   early : begin_root (members_view l.fn.members.entries) ≡ false → begin_root (members_view l.key-iterator) ≡ false;

@@ -1,7 +1,6 @@
 use Rattle.sim_tree.proofs.Common.{filter, ap, is_word, lit<, YieldsList-at, YieldsList-end, YieldsList-from_str_split, ◌∙◌}
-use Rattle.sim_tree.proofs.tokens.tokens_in.Goals as goal
 
-pub returns : goal.returns
+pub returns : Rattle.sim_tree.proofs.tokens.tokens_in.Goals.returns
 returns c =
     let split = c.split-part-items.ensures in
     let parts = YieldsList-from_str_split 32 c.args.text.now (lit< tt) split.text split.has_more split.pattern in

@@ -1,6 +1,4 @@
-use Rattle.sim_trial.proofs.soldiers.push_soldier.Goals as goal
-
-pub returns-clause-text : goal.returns-clause-text
+pub returns-clause-text : Rattle.sim_trial.proofs.soldiers.push_soldier.Goals.returns-clause-text
 returns-clause-text c = simp (
   c.player_of-player.ensures,
   c.next_word-first.ensures,

@@ -1,9 +1,8 @@
 -- One soldier more takes two steps more.
 use Rattle.sim_trial.proofs.Common.{◌≡◌, ℕ, suc, ◌+◌, ◌*◌, false, ◌++◌, nat_lt, string_bytes, refl, ap, arith, next_word, soldier_text, word_after, ◌∙◌}
 use Rattle.sim_trial.proofs.Pieces.{pieces_more}
-use Rattle.sim_trial.proofs.soldiers.push_soldiers.Goals as goal
 
-pub loop-place-preserved : goal.loop-place-preserved
+pub loop-place-preserved : Rattle.sim_trial.proofs.soldiers.push_soldiers.Goals.loop-place-preserved
 loop-place-preserved c =
     let so_far = c.loop-place.invariant in
     let place = c.loop-place.place in

@@ -1,9 +1,8 @@
 -- The commands of player 2 stand behind those of player 1, who has at least one.
 use Rattle.sim_trial.proofs.{OwnedSoldiers.both_walk, Pieces.appended}
 use Rattle.sim_trial.proofs.Common.{ℕ, ◌≢◌, List, ◌++◌, string_bytes, ap, arith, on_ok_weaker, ◌∙◌}
-use Rattle.sim_trial.proofs.walks.push_commands.Goals as goal
 
-pub returns : goal.returns
+pub returns : Rattle.sim_trial.proofs.walks.push_commands.Goals.returns
 returns c =
     let played : c.args.turns ≢ 0 = omega arith in
     on_ok_weaker c.push_walks-2.result

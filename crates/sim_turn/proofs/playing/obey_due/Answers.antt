@@ -1,8 +1,7 @@
 use Rattle.{sim_base.specs.Limits.IsFrom, sim_turn.proofs.Counting.all_mapped}
 use Rattle.sim_turn.proofs.Common.{◌<◌, length, arith, IsOrderOf, Setup, setup_in, subst, sym, Timed}
-use Rattle.sim_turn.proofs.playing.obey_due.Goals as goal
 
-pub obey-requires-clause-player : goal.obey-requires-clause-player
+pub obey-requires-clause-player : Rattle.sim_turn.proofs.playing.obey_due.Goals.obey-requires-clause-player
 obey-requires-clause-player g c =
     let due = c.args.due.now in
     let at = c.loop-timed.timed-index in

@@ -1,9 +1,8 @@
 -- Where nobody can act, the phases leave the state as it is.
 use Rattle.sim_turn.proofs.Common.{◌≡◌, true, ap, is_resting, list_all, setup_in, State, state_in, sym, ◌∙◌}
 use Rattle.sim_turn.proofs.Resting.{nobody_acts}
-use Rattle.sim_turn.proofs.turns.act.Goals as goal
 
-pub returns-then-all_rest-clause-state : goal.returns-then-all_rest-clause-state
+pub returns-then-all_rest-clause-state : Rattle.sim_turn.proofs.turns.act.Goals.returns-then-all_rest-clause-state
 returns-then-all_rest-clause-state g c =
     let state = state_in c.args.board.now in
     let rows : c.as_slice.result.now ≡ state.rows = c.as_slice.ensures ∙ ap (λ (s : State). s.rows) c.scene.ensures.state in

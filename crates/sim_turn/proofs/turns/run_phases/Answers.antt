@@ -1,9 +1,8 @@
 -- The phases are no turn.
 use Rattle.{sim_laws.proofs.Turning.gone_keeps_turn, sim_turn.proofs.Counting.still_below}
 use Rattle.sim_turn.proofs.Common.{◌≡◌, aimed, ap, hit, moved, setup_in, State, state_in, ◌∙◌}
-use Rattle.sim_turn.proofs.turns.run_phases.Goals as goal
 
-pub apply-requires-clause-fits : goal.apply-requires-clause-fits
+pub apply-requires-clause-fits : Rattle.sim_turn.proofs.turns.run_phases.Goals.apply-requires-clause-fits
 apply-requires-clause-fits g c =
     let setup = setup_in c.args.board.now in
     let state = state_in c.args.board.now in

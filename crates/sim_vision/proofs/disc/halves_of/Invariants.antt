@@ -1,8 +1,7 @@
 -- The halves of the rows so far.
 use Rattle.sim_vision.proofs.Common.{◌≡◌, ℕ, ◌-◌, ◌*◌, ◌<◌, length, get_or, IsRoot}
-use Rattle.sim_vision.proofs.disc.halves_of.Given as goal
 
-abbrev pub invariant-loop-away : goal.invariant-loop-away
+abbrev pub invariant-loop-away : Rattle.sim_vision.proofs.disc.halves_of.Given.invariant-loop-away
 invariant-loop-away l = record {
   full : length l.halves.items ≡ l.away;
   each : (k : ℕ) → k < l.away →

@@ -1,8 +1,7 @@
 -- Each flag is that of its byte.
 use Rattle.sim_vision.proofs.Common.{◌≡◌, false, map, length, arith, ext_get_or, get_or-map, is_set, length-map, sym, ◌∙◌}
-use Rattle.sim_vision.proofs.fog.set_flags.Goals as goal
 
-pub returns : goal.returns
+pub returns : Rattle.sim_vision.proofs.fog.set_flags.Goals.returns
 returns c =
     let bytes = c.args.bytes.now in
     let flags = c.loop-at.flags in

@@ -1,5 +1,4 @@
 use Rattle.sim_vision.proofs.After.{counts_last}
-use Rattle.sim_vision.proofs.laws.counts_are_of_the_last_state.Goals as goal
 
-pub returns : goal.returns
+pub returns : Rattle.sim_vision.proofs.laws.counts_are_of_the_last_state.Goals.returns
 returns c = counts_last

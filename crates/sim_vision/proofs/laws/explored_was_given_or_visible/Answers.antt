@@ -1,5 +1,4 @@
 use Rattle.sim_vision.proofs.After.{explored_all}
-use Rattle.sim_vision.proofs.laws.explored_was_given_or_visible.Goals as goal
 
-pub returns : goal.returns
+pub returns : Rattle.sim_vision.proofs.laws.explored_was_given_or_visible.Goals.returns
 returns c = explored_all

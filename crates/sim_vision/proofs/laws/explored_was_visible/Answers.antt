@@ -1,5 +1,4 @@
 use Rattle.sim_vision.proofs.After.{explored_start}
-use Rattle.sim_vision.proofs.laws.explored_was_visible.Goals as goal
 
-pub returns : goal.returns
+pub returns : Rattle.sim_vision.proofs.laws.explored_was_visible.Goals.returns
 returns c = explored_start

@@ -1,5 +1,4 @@
 use Rattle.sim_vision.proofs.Telling.{told_from_a_file}
-use Rattle.sim_vision.proofs.laws.lines_from_a_file.Goals as goal
 
-pub returns : goal.returns
+pub returns : Rattle.sim_vision.proofs.laws.lines_from_a_file.Goals.returns
 returns c = told_from_a_file

@@ -1,5 +1,4 @@
 use Rattle.sim_vision.proofs.Telling.{told_from_the_start}
-use Rattle.sim_vision.proofs.laws.lines_from_the_start.Goals as goal
 
-pub returns : goal.returns
+pub returns : Rattle.sim_vision.proofs.laws.lines_from_the_start.Goals.returns
 returns c = told_from_the_start

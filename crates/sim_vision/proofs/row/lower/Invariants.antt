@@ -1,8 +1,7 @@
 -- Each cell so far is counted one less.
 use Rattle.sim_vision.proofs.Common.{◌≡◌, ℕ, ◌+◌, ◌≤◌, max, get_or, is_within, one_if}
-use Rattle.sim_vision.proofs.row.lower.Given as goal
 
-abbrev pub invariant-loop-at : goal.invariant-loop-at
+abbrev pub invariant-loop-at : Rattle.sim_vision.proofs.row.lower.Given.invariant-loop-at
 invariant-loop-at l = record {
   last : l.at ≤ max l.from l.to;
   counted : (k : ℕ) → get_or l.counts k 0 + one_if (is_within l.from l.at k) ≡ get_or l.initial.counts k 0;

@@ -1,9 +1,8 @@
 -- The lines of the players so far.
 use Rattle.std.specs.Prelude.{flat_map}
 use Rattle.sim_vision.proofs.Common.{◌≡◌, ◌-◌, ◌≤◌, ◌++◌, string_bytes, explored_in, range_with_len, sight_line, visible_in}
-use Rattle.sim_vision.proofs.tell.push_lines.Given as goal
 
-abbrev pub invariant-loop-player : goal.invariant-loop-player
+abbrev pub invariant-loop-player : Rattle.sim_vision.proofs.tell.push_lines.Given.invariant-loop-player
 invariant-loop-player l = record {
   first : 1 ≤ l.player;
   text : string_bytes l.out ≡ string_bytes l.initial.out ++ flat_map (λ p. sight_line p (visible_in l.fn.sight p) (explored_in l.fn.sight p))

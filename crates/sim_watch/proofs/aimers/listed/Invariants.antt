@@ -1,5 +1,4 @@
 use Rattle.sim_watch.proofs.{Common.◌≡◌, Common.map, Common.take, Listing.aimer_of}
-use Rattle.sim_watch.proofs.aimers.listed.Given as goal
 
-abbrev pub invariant-loop-fact : goal.invariant-loop-fact
+abbrev pub invariant-loop-fact : Rattle.sim_watch.proofs.aimers.listed.Given.invariant-loop-fact
 invariant-loop-fact l = l.all.items ≡ map aimer_of (take l.fact-index l.facts)

@@ -1,9 +1,8 @@
 -- One entity more aims, if it has a target.
 use Rattle.sim_fact_lists.proofs.Grouping.{one_more_grouped}
 use Rattle.sim_watch.proofs.Common.{aim_key, ap, arith, joined_by, kept, Watch, ◌∙◌}
-use Rattle.sim_watch.proofs.aims.groups_of.Goals as goal
 
-pub loop-fact-preserved : goal.loop-fact-preserved
+pub loop-fact-preserved : Rattle.sim_watch.proofs.aims.groups_of.Goals.loop-fact-preserved
 loop-fact-preserved c =
     one_more_grouped aim_key Watch c.args.facts.now c.loop-fact.fact-index c.fact-item.result c.loop-fact.groups.groups.items c.join.new.groups.groups.items
     c.requires c.loop-fact.invariant (grind arith) c.fact-item.is

@@ -1,8 +1,6 @@
 -- The systems are built from the state, which is valid.
-use Rattle.sim_board.proofs.Common.{refl}
+use Rattle.{sim_board.proofs.Common.refl, sim_laws.proofs.Validity.valid_is_loose, std.proofs.lemmas.Result.err_from_is_err_and}
 use Rattle.sim_board.proofs.board.Board.adopt.Goals as goal
-use Rattle.std.proofs.lemmas.Result.{err_from_is_err_and}
-use Rattle.sim_laws.proofs.Validity.{valid_is_loose}
 
 pub returns-in_err-build : goal.returns-in_err-build
 returns-in_err-build g c =

@@ -1,9 +1,8 @@
 -- Watch is told of a new target, and the others need not be; of the old one nobody.
-use Rattle.sim_board.proofs.Common.{◌≡◌, MatchOption, Option, refl, Aimed, Census, Ground, Kind, Range, Row, subst, target_of, Watch, ◌∙◌}
+use Rattle.sim_board.proofs.Common.{◌∙◌, ◌≡◌, Aimed, Census, Ground, Kind, MatchOption, Option, Range, refl, Row, subst, target_of, Watch}
 use Rattle.sim_board.proofs.Feeding.{aim_is_told, all_fed_same, fed_told, fed_unheard, may_hear, same_aim}
-use Rattle.sim_board.proofs.Keeping.{kept_fed, kept_watch}
+use Rattle.{sim_board.proofs.Keeping.kept_fed, sim_board.proofs.Keeping.kept_watch, std.proofs.lemmas.Result.err_from_is_err_and}
 use Rattle.sim_board.proofs.board.Board.aimed.Goals as goal
-use Rattle.std.proofs.lemmas.Result.{err_from_is_err_and}
 
 pub tell-requires : goal.tell-requires
 tell-requires g c = may_hear Watch _ _ _ _ c.requires.stands.fed.watch (aim_is_told Watch _ _ c.requires.stands.limits c.requires.stands.valid c.args.id

@@ -1,7 +1,6 @@
 -- Its systems know the later state.
-use Rattle.sim_board.proofs.board.Board.keep_aims.Goals as goal
 
-pub returns-clause-whole : goal.returns-clause-whole
+pub returns-clause-whole : Rattle.sim_board.proofs.board.Board.keep_aims.Goals.returns-clause-whole
 returns-clause-whole g c =
     record {
       whole = c.requires.whole.whole;

@@ -1,7 +1,6 @@
 -- The systems know the state after the change, so the board is whole again.
-use Rattle.sim_board.proofs.Common.{refl}
+use Rattle.{sim_board.proofs.Common.refl, std.proofs.lemmas.Result.err_from_is_err_and}
 use Rattle.sim_board.proofs.board.Board.make.Goals as goal
-use Rattle.std.proofs.lemmas.Result.{err_from_is_err_and}
 
 pub step-requires : goal.step-requires
 step-requires g c = record { stands = c.requires.whole.standing; fits = c.requires.fits }

@@ -1,9 +1,8 @@
 -- Range and Census are told, and the others need not be.
-use Rattle.sim_board.proofs.Common.{refl, Census, Ground, Kind, Owned, Range, Watch}
-use Rattle.sim_board.proofs.Feeding.{fed_told, fed_unheard, may_hear, owner_is_told}
-use Rattle.sim_board.proofs.Keeping.{kept_census, kept_fed, kept_range}
+use Rattle.sim_board.proofs.Common.{Census, Ground, Kind, Owned, Range, refl, Watch}
+use Rattle.sim_board.proofs.{Feeding.fed_told, Feeding.fed_unheard, Feeding.may_hear, Feeding.owner_is_told, Keeping.kept_census, Keeping.kept_fed}
+use Rattle.{sim_board.proofs.Keeping.kept_range, std.proofs.lemmas.Result.err_from_is_err_and}
 use Rattle.sim_board.proofs.board.Board.owned.Goals as goal
-use Rattle.std.proofs.lemmas.Result.{err_from_is_err_and}
 
 pub tell-requires : goal.tell-requires
 tell-requires g c = may_hear Range _ _ _ _ c.requires.stands.fed.range (owner_is_told Range _ _ c.requires.stands.limits c.requires.stands.valid c.args.id

@@ -1,9 +1,7 @@
 -- Those who aimed at the row are let go, and then it leaves.
-use Rattle.sim_board.proofs.{Common.found_placed, Common.refl, Common.◌∙◌}
-use Rattle.sim_board.proofs.Feeding.{all_watch, removal_fed, removal_may_hear}
-use Rattle.sim_board.proofs.Keeping.{kept_fed, kept_on}
+use Rattle.sim_board.proofs.{Common.◌∙◌, Common.found_placed, Common.refl, Feeding.all_watch, Feeding.removal_fed, Feeding.removal_may_hear, Keeping.kept_fed}
+use Rattle.{sim_board.proofs.Keeping.kept_on, std.proofs.lemmas.Result.err_from_is_err_and}
 use Rattle.sim_board.proofs.board.Board.removed.Goals as goal
-use Rattle.std.proofs.lemmas.Result.{err_from_is_err_and}
 
 pub fact_of-fact-requires : goal.fact_of-fact-requires
 fact_of-fact-requires g c = found_placed c.args.self.now.setup.now c.args.self.now.state c.args.id c.living.result.now c.requires.stands.limits

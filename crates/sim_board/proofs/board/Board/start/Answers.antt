@@ -1,8 +1,6 @@
 -- The state that is taken is the first one.
-use Rattle.sim_board.proofs.Common.{refl, sym}
-use Rattle.sim_board.proofs.Counting.{built_same}
+use Rattle.{sim_board.proofs.Common.refl, sim_board.proofs.Common.sym, sim_board.proofs.Counting.built_same, std.proofs.lemmas.Result.err_from_is_err_and}
 use Rattle.sim_board.proofs.board.Board.start.Goals as goal
-use Rattle.std.proofs.lemmas.Result.{err_from_is_err_and}
 
 pub returns-in_err-state : goal.returns-in_err-state
 returns-in_err-state g c =

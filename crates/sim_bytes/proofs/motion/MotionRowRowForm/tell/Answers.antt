@@ -1,9 +1,8 @@
 -- All pieces of a row have room in what gathers them.
 use Rattle.{sim_base.specs.Spelling.moving_bytes, sim_bytes.specs.Lengths.length-moving_bytes}
 use Rattle.{sim_bytes.specs.Telling.Tells, std.proofs.Common.◌≡◌, std.proofs.Common.[], std.proofs.Common.OnOk, std.proofs.Common.subst, std.proofs.Common.◌∙◌}
-use Rattle.sim_bytes.proofs.motion.MotionRowRowForm.tell.Goals as goal
 
-pub returns : goal.returns
+pub returns : Rattle.sim_bytes.proofs.motion.MotionRowRowForm.tell.Goals.returns
 returns g c =
     let row = c.args.self.now in
     let gathered : c.tell_pieces.new.out ≡ moving_bytes row = c.in-Ok.ensures.told [] [] (λ _. c.new-gathered.ensures)

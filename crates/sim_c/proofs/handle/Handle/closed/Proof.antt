@@ -1,5 +1,6 @@
 -- `closed` makes the handle at null, which owns nothing.
-use Rattle.std.proofs.{Common.[], Common.lit<, Common.refl, Common.◌∷◌, raw_atomic.Walks.proved}
+use Rattle.{sim_c.proofs.Address.handle_in, sim_c.proofs.Address.word, sim_c.proofs.handle.Handle.closed.Statement.statement, std.proofs.Common.[]}
+use Rattle.std.{proofs.Common.◌∷◌, proofs.Common.lit<, proofs.Common.refl, proofs.raw_atomic.Walks.proved, specs.declared.option.Option.TheVariants.None}
 use base.Fml.{ftrue}
 use types.Kit.{‵, raw, ◌$◌, ◌∵◌, !, qed, done, drop, feq_i, suffices, group}
 use types.Run.{enter, lit, and_then, no_more, returns}
@@ -8,9 +9,7 @@ use types.ByLocal.{alloc_all, pass_all, free_all, look_at, sets}
 use denote.RawPtr.{Ptr, null_ptr}
 use denote.Steps.{nothing}
 use denote.Triple.{Entry.on_entry, Walked.ends_at, Walked.says, Walked.walk_of}
-use Rattle.std.specs.declared.option.Option.TheVariants.{None}
 use Rattle.sim_c.specs.contracts.handle.Handle.closed as f
-use Rattle.sim_c.proofs.{Address.handle_in, Address.word, handle.Handle.closed.Statement.statement}
 use Rattle.sim_c.proofs.handle.Handle.closed.Code as code
 
 pub closed_spec : {M : Type 1} → statement M

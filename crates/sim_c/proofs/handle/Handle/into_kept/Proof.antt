@@ -1,5 +1,10 @@
 -- `into_kept` compares the address with null: the box that is owned at any other address tells that this may be done.
-use Rattle.std.proofs.Common.{◌≡◌, List, [], ◌∷◌, ◌++◌, refl, sym, ap, ◌∙◌, subst, lit<}
+use Rattle.sim_c.proofs.{Address.either, Address.handle_out, Address.K, Address.LZ, Address.R, Address.word, Address.Z, Parts.frees, Parts.pair}
+use Rattle.sim_c.{proofs.Parts.pair_fits, proofs.Parts.parts_in, proofs.handle.Handle.into_kept.Statement.statement, specs.contracts.handle.Handle.the_row as H}
+use Rattle.std.proofs.Common.{[], ◌++◌, ◌∙◌, ◌∷◌, ◌≡◌, ap, List, lit<, refl, subst, sym}
+use Rattle.std.proofs.{alloc.Calls.handle_tells, alloc.Shapes.after, cell.Inside.Good, option.Made.none_of, option.Made.Some-of, raw_atomic.Walks.proved_at}
+use Rattle.std.specs.{contracts.impls.GlobalAllocator.TheImpl.ghosts, declared.option.Option.TheVariants.None, declared.option.Option.TheVariants.Some}
+use Rattle.std_alloc.proofs.ResultValues.{and_tt}
 use mir.Val.{Val, vcons, vnil}
 use base.Logic.{SProp, ent, id⊢}
 use base.Fml.{ftrue}
@@ -17,12 +22,6 @@ use denote.Param.{layout}
 use denote.Signature.{types_at, type_at, plain}
 use denote.Steps.{nothing}
 use denote.Triple.Walked.{Stays, stay_dropped, walk_of, says, ends_at, Goes-dropped}
-use Rattle.std.specs.{contracts.impls.GlobalAllocator.TheImpl.ghosts, declared.option.Option.TheVariants.None, declared.option.Option.TheVariants.Some}
-use Rattle.std.proofs.{alloc.Calls.handle_tells, alloc.Shapes.after, cell.Inside.Good, option.Made.none_of, option.Made.Some-of, raw_atomic.Walks.proved_at}
-use Rattle.std_alloc.proofs.ResultValues.{and_tt}
-use Rattle.sim_c.proofs.Address.{K, Z, LZ, R, handle_out, either, word}
-use Rattle.sim_c.proofs.{handle.Handle.into_kept.Statement.statement, Parts.frees, Parts.pair, Parts.pair_fits, Parts.parts_in}
-use Rattle.sim_c.specs.contracts.handle.Handle.{the_row as H}
 use Rattle.sim_c.specs.contracts.handle.Handle.into_kept as f
 use Rattle.sim_c.proofs.handle.Handle.into_kept.Code as code
 

@@ -1,9 +1,8 @@
 -- It is on at a valid state.
-use Rattle.sim_client.proofs.{Common.IsValid, Common.refl, Common.rules, Common.subst, Common.sym, Common.◌∙◌, Standing.none_by_players, Standing.of_match}
-use Rattle.sim_client.specs.StageWords.{systems_on}
-use Rattle.{std.specs.Prelude.Option, sim_system.specs.Meanings.AreBuiltOnceAtMost}
+use Rattle.sim_client.proofs.Common.{◌∙◌, IsValid, refl, rules, subst, sym}
+use Rattle.sim_client.{proofs.Standing.none_by_players, proofs.Standing.of_match, specs.StageWords.systems_on}
+use Rattle.{sim_system.specs.Meanings.AreBuiltOnceAtMost, sim_system.specs.RigWords.systems_by, std.specs.Prelude.Option}
 use Rattle.sim_client.proofs.client.Client.adopt.Goals as goal
-use Rattle.sim_system.specs.RigWords.{systems_by}
 
 pub returns : goal.returns
 returns g c =

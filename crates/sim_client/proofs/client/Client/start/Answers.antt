@@ -1,9 +1,8 @@
 -- It begins at the first state, which is valid.
-use Rattle.{sim_base.specs.Turn.first_state, sim_laws.proofs.Validity.first_state_is_valid}
-use Rattle.{sim_client.specs.StageWords.systems_on, std.specs.Prelude.Option, sim_system.specs.Meanings.AreBuiltOnceAtMost}
-use Rattle.{sim_system.specs.RigWords.systems_by}
-use Rattle.sim_client.proofs.{Common.ap, Common.IsValid, Common.refl, Common.rules, Common.subst, Common.sym, Common.◌∙◌, Standing.none_by_players}
-use Rattle.sim_client.proofs.{Standing.of_match}
+use Rattle.{sim_base.specs.Turn.first_state, sim_client.proofs.Common.◌∙◌}
+use Rattle.sim_client.proofs.{Common.ap, Common.IsValid, Common.refl, Common.rules, Common.subst, Common.sym, Standing.none_by_players, Standing.of_match}
+use Rattle.{sim_client.specs.StageWords.systems_on, sim_laws.proofs.Validity.first_state_is_valid, sim_system.specs.Meanings.AreBuiltOnceAtMost}
+use Rattle.{sim_system.specs.RigWords.systems_by, std.specs.Prelude.Option}
 use Rattle.sim_client.proofs.client.Client.start.Goals as goal
 
 pub returns : goal.returns

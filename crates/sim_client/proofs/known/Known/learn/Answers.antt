@@ -1,9 +1,8 @@
 -- They were taken out, and are set again with one more.
 use Rattle.sim_client.proofs.Common.{◌≡◌, ℕ, List, [], ◌∷◌, ◌++◌, OnOk, known_in, PlayerCommand, put, subst, ◌∙◌}
 use Rattle.sim_client.proofs.Knowing.{put_again}
-use Rattle.sim_client.proofs.known.Known.learn.Goals as goal
 
-pub returns : goal.returns
+pub returns : Rattle.sim_client.proofs.known.Known.learn.Goals.returns
 returns c =
     let t = c.args.turn in
     let old = known_in c.args.self.now in

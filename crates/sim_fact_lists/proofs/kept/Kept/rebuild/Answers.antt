@@ -1,8 +1,7 @@
 -- What is kept of facts in range is held.
 use Rattle.sim_fact_lists.proofs.Holding.{newly_held}
-use Rattle.sim_fact_lists.proofs.kept.Kept.rebuild.Goals as goal
 
-pub invariant_of-self-2 : goal.invariant_of-self-2
+pub invariant_of-self-2 : Rattle.sim_fact_lists.proofs.kept.Kept.rebuild.Goals.invariant_of-self-2
 invariant_of-self-2 c = record {
   held = newly_held c.args.kind c.args.land.now _ _ _ c.requires.land c.requires.facts c.in_ok-copied.ensures
       c.in_ok-self.ensures;

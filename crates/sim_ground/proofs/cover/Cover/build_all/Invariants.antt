@@ -1,7 +1,6 @@
 use Rattle.sim_ground.proofs.Common.{◌≡◌, take, count_by, Fact, LayersRise, rect_covers}
-use Rattle.sim_ground.proofs.cover.Cover.build_all.Given as goal
 
-abbrev pub invariant-loop-fact : goal.invariant-loop-fact
+abbrev pub invariant-loop-fact : Rattle.sim_ground.proofs.cover.Cover.build_all.Given.invariant-loop-fact
 invariant-loop-fact l =
     record {
       size : l.self.grid.size ≡ l.initial.self.grid.size;

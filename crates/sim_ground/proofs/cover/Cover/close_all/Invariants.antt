@@ -1,7 +1,6 @@
 use Rattle.sim_ground.proofs.Common.{◌≡◌, take, count_by, covers, LayersRise, Rect}
-use Rattle.sim_ground.proofs.cover.Cover.close_all.Given as goal
 
-abbrev pub invariant-loop-rect : goal.invariant-loop-rect
+abbrev pub invariant-loop-rect : Rattle.sim_ground.proofs.cover.Cover.close_all.Given.invariant-loop-rect
 invariant-loop-rect l =
     record {
       size : l.self.grid.size ≡ l.initial.self.grid.size;

@@ -1,7 +1,6 @@
 use Rattle.sim_ground.proofs.Common.{◌≡◌, ◌≤◌, false, in_row, LayersChange}
-use Rattle.sim_ground.proofs.cover.Cover.step_row.Given as goal
 
-abbrev pub invariant-loop-x : goal.invariant-loop-x
+abbrev pub invariant-loop-x : Rattle.sim_ground.proofs.cover.Cover.step_row.Given.invariant-loop-x
 invariant-loop-x l =
     record {
       from : l.west ≤ l.x;

@@ -1,7 +1,6 @@
 use Rattle.sim_ground.proofs.Common.{◌≡◌, ◌≤◌, false, in_rows, LayersChange}
-use Rattle.sim_ground.proofs.cover.Cover.step_rows.Given as goal
 
-abbrev pub invariant-loop-z : goal.invariant-loop-z
+abbrev pub invariant-loop-z : Rattle.sim_ground.proofs.cover.Cover.step_rows.Given.invariant-loop-z
 invariant-loop-z l =
     record {
       from : l.south ≤ l.z;

@@ -1,8 +1,7 @@
 -- What may be mended is, and after the undoing the same cells are open.
-use Rattle.sim_ground.proofs.{Common.part_covers, Common.label_in, Mendable.are_turned, Mendable.own_labels, Undoing.labels_undone}
-use Rattle.sim_ground.proofs.Common.{AreLabels, field_of_grid, subst, sym}
+use Rattle.sim_ground.proofs.{Common.AreLabels, Common.field_of_grid, Common.label_in, Common.part_covers, Common.subst, Common.sym, Mendable.are_turned}
+use Rattle.{sim_ground.proofs.Mendable.own_labels, sim_ground.proofs.Undoing.labels_undone, sim_search.specs.declared.labels.Labels.Labels}
 use Rattle.sim_ground.proofs.opened.Opened.turn.Goals as goal
-use Rattle.sim_search.specs.declared.labels.Labels.{Labels}
 
 pub are_mended-requires-clause-labels : goal.are_mended-requires-clause-labels
 are_mended-requires-clause-labels c = own_labels c.args.self.now.cover.grid c.turn.new.self.grid (label_in c.args.self.now.labels) c.turn.ensures.size

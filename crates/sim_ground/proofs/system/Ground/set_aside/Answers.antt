@@ -1,8 +1,7 @@
 -- What goes into the rooms was drawn of the land and the facts that go with it.
 use Rattle.sim_ground.proofs.Common.{◌≡◌, Fact, IsOpened, List, refl, subst, sym, ◌∙◌}
-use Rattle.sim_ground.proofs.system.Ground.set_aside.Goals as goal
 
-pub new-requires-in-Some-Some : goal.new-requires-in-Some-Some
+pub new-requires-in-Some-Some : Rattle.sim_ground.proofs.system.Ground.set_aside.Goals.new-requires-in-Some-Some
 new-requires-in-Some-Some c =
     let s = c.args.self.now in
     let same : c.replace-facts.result.items ≡ s.kept.facts.items = rw c.replace-facts.ensures.value refl in

@@ -1,8 +1,7 @@
 -- Where no obstruction comes or goes, the facts are the same.
 use Rattle.sim_ground.proofs.{Built.still_kept_on, Common.sym, Common.◌∙◌}
-use Rattle.sim_ground.proofs.system.GroundSystem.on.Goals as goal
 
-pub invariant_of-self : goal.invariant_of-self
+pub invariant_of-self : Rattle.sim_ground.proofs.system.GroundSystem.on.Goals.invariant_of-self
 invariant_of-self c = record {
   over = still_kept_on c.on.result c.args.self.now.kept.land c.on.new.self.land c.args.self.now.kept.facts.items c.on.new.self.facts.items
       c.args.self.now.opened c.args.note.now c.requires (sym c.builds_of.ensures ∙ c.if-builds_of.false)

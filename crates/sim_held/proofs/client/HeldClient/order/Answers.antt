@@ -1,10 +1,8 @@
 -- What was refused memory is cut off.
-use Rattle.sim_client.specs.Lives.{orders}
-use Rattle.std.specs.Prelude.{option_map}
-use Rattle.sim_held.{proofs.Common.life_at, proofs.Common.refl, proofs.Common.◌∙◌, proofs.Stepping.heeds_takes, specs.Clients.command_in}
-use Rattle.sim_held.proofs.client.HeldClient.order.Goals as goal
+use Rattle.{sim_client.specs.Lives.orders, sim_held.proofs.Common.◌∙◌, sim_held.proofs.Common.life_at, sim_held.proofs.Common.refl}
+use Rattle.{sim_held.proofs.Stepping.heeds_takes, sim_held.specs.Clients.command_in, std.specs.Prelude.option_map}
 
-pub returns : goal.returns
+pub returns : Rattle.sim_held.proofs.client.HeldClient.order.Goals.returns
 returns c =
     let before = c.self.inside in
     let came = c.order-came in

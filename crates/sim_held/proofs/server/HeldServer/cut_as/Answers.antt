@@ -1,8 +1,7 @@
 -- What is said has frames, and waits behind the rest.
-use Rattle.sim_held.proofs.{Common.ap, Common.Ok, Common.[], Common.◌++◌, Common.if◌then◌else◌, Common.told_to, Common.refl, Common.subst, Common.sym, Common.◌∙◌, Serving.cut_by, Serving.own_after, Serving.own_still, Serving.ready_after}
-use Rattle.{sim_plain.specs.Messages.Cut, sim_pipes.proofs.Answering.have_frames}
-use Rattle.std.proofs.{Common.◌==◌}
-use Rattle.sim_held.specs.Servers.{AreSmall, waiting}
+use Rattle.sim_held.proofs.Common.{[], if◌then◌else◌, ◌++◌, ◌∙◌, ap, Ok, refl, subst, sym, told_to}
+use Rattle.sim_held.{proofs.Serving.cut_by, proofs.Serving.own_after, proofs.Serving.own_still, proofs.Serving.ready_after, specs.Servers.AreSmall}
+use Rattle.{sim_held.specs.Servers.waiting, sim_pipes.proofs.Answering.have_frames, sim_plain.specs.Messages.Cut, std.proofs.Common.◌==◌}
 use Rattle.sim_held.proofs.server.HeldServer.cut_as.Goals as goal
 
 pub invariant_of-self-in_err-posts : goal.invariant_of-self-in_err-posts

@@ -1,9 +1,8 @@
 -- Nothing is kept, and nothing waits.
 use Rattle.sim_held.proofs.Common.{ap, rules, subst, sym}
 use Rattle.{sim_held.proofs.Common.All-nil, sim_held.specs.Servers.waiting, sim_plain.specs.declared.rules.Rules.Rules, sim_server.specs.Small.IsSmallServer}
-use Rattle.sim_held.proofs.server.HeldServer.with_rules.Goals as goal
 
-pub invariant_of-result : goal.invariant_of-result
+pub invariant_of-result : Rattle.sim_held.proofs.server.HeldServer.with_rules.Goals.invariant_of-result
 invariant_of-result c = record {
   count = ap (λ (r : Rules). r.clients) (sym c.in-Ok.ensures.rules);
   keeps = subst IsSmallServer (sym c.in-Ok.ensures.stands) (λ t. tt);

@@ -1,8 +1,7 @@
 use Rattle.sim_merge.proofs.Common.{◌<◌, map, length, ap, arith, get_or-map, Holding, is_resolved, length-map, node_of, sym, ◌∙◌}
 use Rattle.sim_merge.proofs.ListLemmas.{list_all-get_or}
-use Rattle.sim_merge.proofs.library.Library.tree.Goals as goal
 
-pub returns-clause-resolved : goal.returns-clause-resolved
+pub returns-clause-resolved : Rattle.sim_merge.proofs.library.Library.tree.Goals.returns-clause-resolved
 returns-clause-resolved c =
     let trees = c.self.inside.trees.items in
     let tree = c.index.result.now in

@@ -1,8 +1,7 @@
 -- The fact that is kept beside the function, which is called where the box leads.
 use Rattle.sim_orders.proofs.Common.{subst}
-use Rattle.sim_orders.proofs.table.Handler.plan.Goals as goal
 
-pub returns : goal.returns
+pub returns : Rattle.sim_orders.proofs.table.Handler.plan.Goals.returns
 returns g c =
     c.args.self.now.obeys c.args.alloc c.args.setup c.args.state c.args.help c.args.player c.args.command c.call.result c.requires
     (subst (λ run. (g.dyn-1.0.entry run.0).1.post run.1 (c.args.alloc, (c.args.setup, (c.args.state, (c.args.help, (c.args.player, (c.args.command, tt))))))

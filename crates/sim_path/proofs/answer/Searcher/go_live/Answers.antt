@@ -1,12 +1,9 @@
 -- The way is read off the distances to the goal, which is the end.
-use Rattle.sim_path.proofs.{Found.if_ok, LiveWays.goal-end}
-use Rattle.sim_path.proofs.Common.{◌≡◌, ◌*◌, ap, Bool, cell_of, field_of_grid, inside-on_ground, IsOnGround, IsTightTrail, IsTrailToEnd, subst, sym, true, ◌∙◌}
-use Rattle.sim_path.specs.SlopeLaws.{slope-floor}
-use Rattle.sim_path.specs.{Floors.IsSlope, Floors.slope_of}
+use Rattle.sim_path.proofs.Common.{◌*◌, ◌∙◌, ◌≡◌, ap, Bool, cell_of, field_of_grid, inside-on_ground, IsOnGround, IsTightTrail, IsTrailToEnd, subst, sym, true}
+use Rattle.sim_path.{proofs.Found.if_ok, proofs.LiveWays.goal-end, specs.Floors.IsSlope, specs.Floors.slope_of, specs.SlopeLaws.slope-floor}
 use Rattle.sim_search.specs.{Distances.AreDistances, Distances.number_in, Distances.size_about, declared.distances.Distances.Distances}
-use Rattle.sim_path.proofs.answer.Searcher.go_live.Goals as goal
 
-pub returns : goal.returns
+pub returns : Rattle.sim_path.proofs.answer.Searcher.go_live.Goals.returns
 returns c =
     let field = field_of_grid c.args.grid.now in
     let start = c.cell_of-from.result in

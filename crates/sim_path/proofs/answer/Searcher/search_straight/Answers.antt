@@ -1,6 +1,5 @@
-use Rattle.sim_path.proofs.Common.{◌≡◌, ℕ, ◌+◌, ◌-◌, ◌*◌, ◌/◌, ◌^◌, ◌<◌, ◌≤◌, refl, ap, arith, Cell, cell_of}
-use Rattle.sim_path.proofs.Common.{estimate-guides, field_of_grid, IfOk-from_err, inside-on_ground, octile, ◌∙◌}
-use Rattle.sim_path.proofs.FloorLaws.{known-front}
+use Rattle.sim_path.proofs.Common.{◌*◌, ◌+◌, ◌-◌, ◌/◌, ◌<◌, ◌^◌, ◌∙◌, ◌≡◌, ◌≤◌, ap, arith, Cell, cell_of, estimate-guides, field_of_grid, IfOk-from_err}
+use Rattle.sim_path.proofs.{Common.inside-on_ground, Common.octile, Common.refl, Common.ℕ, FloorLaws.known-front}
 use Rattle.sim_path.proofs.answer.Searcher.search_straight.Goals as goal
 
 small : (key : ℕ) → key < 2 ^ 24 → key < 2 ^ 26

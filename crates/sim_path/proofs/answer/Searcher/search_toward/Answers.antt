@@ -1,9 +1,8 @@
 -- By distances the way is read off.
 use Rattle.sim_path.proofs.Common.{◌*◌, ap, ap₂, Cell, cell_of, field_of_grid, subst, sym, ◌∙◌}
-use Rattle.sim_path.proofs.answer.Searcher.search_toward.Goals as goal
 use Rattle.sim_search.specs.{Distances.AreDistances, Distances.number_in, Distances.size_about, declared.distances.Distances.Distances}
 
-pub go_back-requires-clause-floor : goal.go_back-requires-clause-floor
+pub go_back-requires-clause-floor : Rattle.sim_path.proofs.answer.Searcher.search_toward.Goals.go_back-requires-clause-floor
 go_back-requires-clause-floor c =
     let field = field_of_grid c.args.grid.now in
     let goal = cell_of c.args.goal.now in

@@ -1,9 +1,8 @@
 -- Those that are kept are on the ground, the new ones too.
+use Rattle.sim_path.proofs.Common.{[], ◌%◌, ◌++◌, ◌∷◌, ◌≡◌, All, Bool, false, field_of_grid, List, subst, sym, true}
+use Rattle.{sim_path.specs.Atlases.AreOn, sim_path.specs.Atlases.ground_in, sim_search.specs.declared.distances.Distances.Distances}
 use Rattle.std.{proofs.lemmas.List.Elements.All-push, proofs.lemmas.List.Elements.All-set, specs.Bool.if◌then◌else◌, specs.Result.is_ok}
-use Rattle.sim_search.specs.declared.distances.Distances.{Distances}
-use Rattle.sim_path.proofs.Common.{All, Bool, field_of_grid, false, List, subst, sym, true, [], ◌%◌, ◌++◌, ◌∷◌, ◌≡◌}
 use Rattle.sim_path.proofs.atlas.Atlas.keep.Goals as goal
-use Rattle.sim_path.specs.Atlases.{AreOn, ground_in}
 
 pub invariant_of-self : goal.invariant_of-self
 invariant_of-self c =

@@ -2,9 +2,8 @@
 use Rattle.sim_grid.specs.Packed.{ArePacked}
 use Rattle.std.proofs.{lemmas.Bool.Decides.Decides-eqb, lemmas.Slice.Eq.slice_eq-Decides}
 use Rattle.sim_path.proofs.{Common.List, Common.subst, Common.sym, Common.ℕ, Common.◌≡◌, Common.◌∙◌, KeptWords.kept-ground}
-use Rattle.sim_path.proofs.kept.KeptCells.are_of.Goals as goal
 
-pub returns : goal.returns
+pub returns : Rattle.sim_path.proofs.kept.KeptCells.are_of.Goals.returns
 returns c = λ e.
     let own = c.args.self.now in
     let lent = c.words.result.now in

@@ -1,9 +1,8 @@
 -- The words that are copied tell the cells.
 use Rattle.sim_grid.specs.Packed.{ArePacked}
 use Rattle.sim_path.proofs.{Common.ap, Common.List, Common.subst, Common.sym, Common.ℕ, Common.◌++◌, Common.◌∙◌, KeptWords.kept-ground}
-use Rattle.sim_path.proofs.kept.KeptCells.of.Goals as goal
 
-pub returns : goal.returns
+pub returns : Rattle.sim_path.proofs.kept.KeptCells.of.Goals.returns
 returns c =
     let words = c.words.result.now in
     let same = c.in_ok-extend_from_slice.ensures.items ∙ ap (λ (l : List ℕ). l ++ words) c.new-words.ensures.items in

@@ -1,7 +1,6 @@
 use Rattle.sim_path.{proofs.Common.rules, proofs.Remembering.none_right, specs.Atlases.ground_in}
-use Rattle.sim_path.proofs.remembered.Remembered.of.Goals as goal
 
-pub invariant_of-result : goal.invariant_of-result
+pub invariant_of-result : Rattle.sim_path.proofs.remembered.Remembered.of.Goals.invariant_of-result
 invariant_of-result c = record {
   full = c.in_ok-places.ensures.len;
   right = none_right (ground_in c.in_ok-over.over) c.new.result.items c.in_ok-places.places.items 2048

@@ -1,10 +1,8 @@
-use Rattle.sim_path.proofs.{Common.arith, Common.Cell, Common.List, Common.same_cell-true, Common.subst, Common.sym, Remembering.at_right}
+use Rattle.sim_path.proofs.Common.{◌-◌, ◌<◌, ◌∙◌, arith, Cell, field_of_grid, length, List, None, same_cell-true, subst, sym, take}
+use Rattle.sim_path.{proofs.Remembering.at_right, specs.Atlases.ground_in, specs.Remembering.AreFirst}
 use Rattle.std.proofs.{Common.drop, lemmas.List.get_or_read}
-use Rattle.sim_path.proofs.Common.{◌<◌, ◌-◌, field_of_grid, length, None, take, ◌∙◌}
-use Rattle.sim_path.specs.{Atlases.ground_in, Remembering.AreFirst}
-use Rattle.sim_path.proofs.remembered.Remembered.trip.Goals as goal
 
-pub returns-then-are_of : goal.returns-then-are_of
+pub returns-then-are_of : Rattle.sim_path.proofs.remembered.Remembered.trip.Goals.returns-then-are_of
 returns-then-are_of c =
     let s = c.args.self.now in
     let kept = c.in_ok-kept.kept in

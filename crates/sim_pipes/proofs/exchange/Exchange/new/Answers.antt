@@ -1,8 +1,7 @@
 -- There are two pipes for each number, and nothing is kept.
 use Rattle.sim_pipes.proofs.Common.{suc, ap, IsSmallServer, Rules, subst, sym, ◌∙◌}
-use Rattle.sim_pipes.proofs.exchange.Exchange.new.Goals as goal
 
-pub invariant_of-result : goal.invariant_of-result
+pub invariant_of-result : Rattle.sim_pipes.proofs.exchange.Exchange.new.Goals.invariant_of-result
 invariant_of-result c =
     let clients = ap (λ (r : Rules). suc r.clients) (sym c.in_ok-new.ensures.rules) in
     record {

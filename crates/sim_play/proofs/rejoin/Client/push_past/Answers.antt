@@ -1,10 +1,9 @@
 -- One turn more is played, and has its line.
 use Rattle.sim_play.proofs.{Common.turn_line, Common.◌∙◌, Past.own_more, Past.past_lines-more, Playing.next_number}
 use Rattle.sim_play.proofs.Common.{◌≡◌, ℕ, suc, ◌+◌, ◌-◌, ◌++◌, string_bytes, ap, arith, digest, from, IsValid, own_turns, past_lines, Setup, State, subst, sym}
-use Rattle.sim_play.proofs.rejoin.Client.push_past.Goals as goal
 use Rattle.sim_board.proofs.Keeping.{kept_on}
 
-pub loop-number-preserved : goal.loop-number-preserved
+pub loop-number-preserved : Rattle.sim_play.proofs.rejoin.Client.push_past.Goals.loop-number-preserved
 loop-number-preserved g c =
     let setup = c.args.board.now.setup.now in
     let word = c.args.self.now.word.now in

@@ -1,9 +1,8 @@
 -- The board was started, has its first line, and is played on.
-use Rattle.sim_play.proofs.{Past.begun_lines, Past.own_start, Starting.started_turn, Starting.started_valid}
-use Rattle.sim_play.proofs.Common.{State, state_in, subst, sym, turn_line, ◌∙◌}
-use Rattle.sim_play.proofs.Common.{◌≡◌, ℕ, suc, ◌-◌, ◌++◌, string_bytes, after, ap, arith, digest, IsValid, own_turns, past_lines, Setup, setup_in}
+use Rattle.{sim_base.proofs.Lists.on_ok, sim_play.proofs.Common.◌++◌, sim_play.proofs.Common.◌-◌}
+use Rattle.sim_play.proofs.Common.{◌∙◌, ◌≡◌, after, ap, arith, digest, IsValid, own_turns, past_lines, Setup, setup_in, State, state_in, string_bytes, subst}
+use Rattle.sim_play.proofs.{Common.suc, Common.sym, Common.turn_line, Common.ℕ, Past.begun_lines, Past.own_start, Starting.started_turn, Starting.started_valid}
 use Rattle.sim_play.proofs.rejoin.Client.start_until.Goals as goal
-use Rattle.sim_base.proofs.Lists.{on_ok}
 
 pub push_past-requires-clause-goes_on : goal.push_past-requires-clause-goes_on
 push_past-requires-clause-goes_on g c = record {

@@ -1,7 +1,6 @@
 use Rattle.sim_range.proofs.Common.{IsPermutation, below_bucket, turned_seen, turned_watchers}
-use Rattle.sim_range.proofs.plan.Plan.find.Given as goal
 
-abbrev pub invariant-loop-number : goal.invariant-loop-number
+abbrev pub invariant-loop-number : Rattle.sim_range.proofs.plan.Plan.find.Given.invariant-loop-number
 invariant-loop-number l = record {
   watchers : IsPermutation (turned_watchers l.land l.before l.after (below_bucket l.number l.facts)) l.self.watchers.items;
   seen : IsPermutation (turned_seen l.land l.before l.after (below_bucket l.number l.facts)) l.self.seen.items;

@@ -1,9 +1,8 @@
 -- It begins with what the entity saw, which is nothing where it was not kept.
 use Rattle.sim_range.proofs.{Common.ap, Common.Plan, Common.◌∙◌, plan.Plan.find_own.Goals.in-Ok+in_ok-copy_from, plan.Plan.find_own.Goals.in_default-place_of}
 use Rattle.sim_range.proofs.Own.{saw, saw_none}
-use Rattle.sim_range.proofs.plan.Plan.find_own.Goals as goal
 
-pub turn_own-requires-clause-own : goal.turn_own-requires-clause-own
+pub turn_own-requires-clause-own : Rattle.sim_range.proofs.plan.Plan.find_own.Goals.turn_own-requires-clause-own
 turn_own-requires-clause-own c =
     let land = c.args.land.now in
     let facts = c.args.facts.now in

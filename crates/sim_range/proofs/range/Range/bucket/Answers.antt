@@ -1,8 +1,7 @@
 -- The numbers of the buckets of a row are those of 16 columns.
 use Rattle.sim_range.proofs.{Changing.lent_is, Common.ℕ, Common.◌+◌, Common.◌*◌, Common.ap, Common.◌∙◌}
-use Rattle.sim_range.proofs.range.Range.bucket.Goals as goal
 
-pub returns-in-Some : goal.returns-in-Some
+pub returns-in-Some : Rattle.sim_range.proofs.range.Range.bucket.Goals.returns-in-Some
 returns-in-Some c =
     let s = c.args.self.now in
     lent_is c.args.bx c.args.bz _ s.kept.facts.items _ s.buckets.items c.in-Some.bucket.now _ c.requires.bx s.placed s.bucketed

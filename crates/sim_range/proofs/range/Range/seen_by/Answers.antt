@@ -1,8 +1,7 @@
 -- The facts are held on the land, and stand in their buckets.
 use Rattle.sim_range.proofs.Common.{ap, is_some}
-use Rattle.sim_range.proofs.range.Range.seen_by.Goals as goal
 
-pub seen-requires-clause-crowd : goal.seen-requires-clause-crowd
+pub seen-requires-clause-crowd : Rattle.sim_range.proofs.range.Range.seen_by.Goals.seen-requires-clause-crowd
 seen-requires-clause-crowd c =
     let s = c.args.self.now in
     rw c.as_slice-facts.ensures.value (rw c.as_slice.ensures.value (record {

@@ -1,8 +1,7 @@
 -- The facts are held on the land, and stand in their buckets.
 use Rattle.sim_range.proofs.Common.{ap, is_some}
-use Rattle.sim_range.proofs.range.RangeSystem.ask.Goals as goal
 
-pub within-requires-clause-crowd : goal.within-requires-clause-crowd
+pub within-requires-clause-crowd : Rattle.sim_range.proofs.range.RangeSystem.ask.Goals.within-requires-clause-crowd
 within-requires-clause-crowd c =
     let s = c.args.self.now in
     rw c.as_slice-facts.ensures.value (rw c.as_slice-buckets.ensures.value (record {

@@ -1,8 +1,7 @@
 use Rattle.sim_search.proofs.Beginning.{entry_at-all}
 use Rattle.sim_search.proofs.Common.{◌≡◌, ◌+◌, ◌≤◌, nat_eq, Some, None, All, refl, All-weaker, arith, cond-false, Entry, ne_eqb, read_entry, size_of}
-use Rattle.sim_search.proofs.costs.Costs.forget.Goals as goal
 
-pub returns : goal.returns
+pub returns : Rattle.sim_search.proofs.costs.Costs.forget.Goals.returns
 returns c =
     let old = c.args.self.now in
     let now = old.stamp + 1 in

@@ -1,9 +1,8 @@
 use Rattle.sim_search.proofs.Cells.{entry_at-set_other, entry_at-set_same}
 use Rattle.sim_search.proofs.Common.{known, length-map, map-set, read_entry, size_of, ◌∙◌}
 use Rattle.sim_search.proofs.Common.{◌≡◌, ℕ, ◌*◌, eqb, List, map, length, set, Some, None, Option, refl, ap, arith, Cell, cond-true, Entry, entry_at, eq-eqb}
-use Rattle.sim_search.proofs.costs.Costs.set.Goals as goal
 
-pub returns : goal.returns
+pub returns : Rattle.sim_search.proofs.costs.Costs.set.Goals.returns
 returns c =
     let old = c.args.self.now in
     let full : length (known old) ≡ old.width * old.depth = omega (arith, length-map old.items.items (read_entry old.stamp), old.full, old.items.ok.0) in

@@ -1,8 +1,7 @@
 -- The rows are made one after another of the costs at the same places.
-use Rattle.sim_search.{proofs.Rows.entry_at-map, specs.Rows.alike}
-use Rattle.std.proofs.lemmas.List.{map_more}
-use Rattle.sim_search.proofs.Common.{◌≡◌, ℕ, ◌≤◌, List, ◌∷◌, ◌++◌, [], map, length, take, None, Option, refl, ap, ap₂, arith, entry_at}
-use Rattle.sim_search.proofs.Common.{Costs, known, length-map, read_entry, size_of, sym, take_all, ◌∙◌}
+use Rattle.sim_search.proofs.Common.{[], ◌++◌, ◌∙◌, ◌∷◌, ◌≡◌, ◌≤◌, ap, ap₂, arith, Costs, entry_at, known, length, length-map, List, map, None, Option}
+use Rattle.sim_search.proofs.Common.{read_entry, refl, size_of, sym, take, take_all, ℕ}
+use Rattle.{sim_search.proofs.Rows.entry_at-map, sim_search.specs.Rows.alike, std.proofs.lemmas.List.map_more}
 use Rattle.sim_search.proofs.landmarks.Landmarks.new.Goals as goal
 
 pub loop-place-preserved : goal.loop-place-preserved

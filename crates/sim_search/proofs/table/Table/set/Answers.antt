@@ -1,8 +1,7 @@
 use Rattle.sim_search.proofs.Cells.{entry_at-set_other, entry_at-set_same}
 use Rattle.sim_search.proofs.Common.{◌≡◌, ℕ, ◌*◌, length, set, Some, None, refl, ap, arith, size_in}
-use Rattle.sim_search.proofs.table.Table.set.Goals as goal
 
-pub returns : goal.returns
+pub returns : Rattle.sim_search.proofs.table.Table.set.Goals.returns
 returns c =
     let old = c.args.self.now in
     let full : length old.items.items ≡ old.width * old.depth = omega (arith, old.full, old.items.ok.0) in

@@ -4,9 +4,8 @@ use Rattle.sim_talk.specs.{Ahead.bytes_ahead, Kept.bytes_kept, Lines.MissesOf, L
 use Rattle.std.specs.Io.KnownBytes.{prepend_known}
 use Rattle.std.proofs.Common.{◌≡◌, [], Err, ap, rules, subst, sym, ◌∙◌}
 use Rattle.sim_talk.specs.declared.fault.TalkFault.TheVariants as ends
-use Rattle.sim_talk.proofs.line_talk.LineTalkTalk.hear.Goals as goal
 
-pub returns-in_err-read_line-clause-passed : goal.returns-in_err-read_line-clause-passed
+pub returns-in_err-read_line-clause-passed : Rattle.sim_talk.proofs.line_talk.LineTalkTalk.hear.Goals.returns-in_err-read_line-clause-passed
 returns-in_err-read_line-clause-passed g c =
     let is : c.from_residual-in_err-read_line.result ≡ Err (ends.Unheard c.in_err-read_line.field-0.0) = search rules in
     let old = c.args.self.now in

@@ -3,9 +3,8 @@
 use Rattle.std.{proofs.lemmas.List.length-take-le, specs.Prelude.min}
 use Rattle.std.proofs.Common.{◌≡◌, ℕ, ◌-◌, ◌≤◌, List, length, take, drop, ap, arith, rules, subst, ◌∙◌}
 use Rattle.sim_talk.proofs.Reading.{drop-read, nothing_left, slice_from}
-use Rattle.sim_talk.proofs.mem_source.MemSourceSource.read.Goals as goal
 
-pub returns-clause-bytes : goal.returns-clause-bytes
+pub returns-clause-bytes : Rattle.sim_talk.proofs.mem_source.MemSourceSource.read.Goals.returns-clause-bytes
 returns-clause-bytes c =
     let bytes = c.args.self.now.bytes.items in
     let into = c.args.into.now in

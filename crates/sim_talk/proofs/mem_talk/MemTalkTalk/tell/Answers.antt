@@ -2,7 +2,6 @@
 use Rattle.{sim_store.specs.Counts.raised, sim_store.specs.declared.fault.Failed.Failed, std.specs.Prelude.⊤}
 use Rattle.std.proofs.Common.{◌≡◌, ℕ, List, [], ◌∷◌, take, Ok, Err, Result, refl, append-nil, sym, ◌∙◌}
 use Rattle.sim_talk.specs.{MemTalk.history_of, MemTalk.KeepsTold, Talks.none_of, Talks.part_of, Talks.Passed, Talks.Tells, Talks.told, Talks.told_bytes}
-use Rattle.sim_talk.proofs.mem_talk.MemTalkTalk.tell.Goals as goal
 
 told_in_part : (result : Result ⊤ Failed) (failed : Failed) (text : List ℕ) (count : ℕ) (xs ys : List Passed) (unread unwritten unwritten' : ℕ)
     → KeepsTold result (take count text) xs ys → unwritten' ≡ raised 1 unwritten
@@ -41,6 +40,6 @@ told_in_part (Err other) failed text count xs ys unread unwritten unwritten' kep
   ),
 )
 
-pub returns-clause-passed : goal.returns-clause-passed
+pub returns-clause-passed : Rattle.sim_talk.proofs.mem_talk.MemTalkTalk.tell.Goals.returns-clause-passed
 returns-clause-passed c =
     told_in_part c.tell_all-told.result _ c.args.text.now c.min-count.result _ _ _ _ _ c.tell_all-told.ensures c.one_more-self.ensures

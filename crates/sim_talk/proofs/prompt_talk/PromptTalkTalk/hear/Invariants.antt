@@ -1,8 +1,7 @@
 -- Nothing has failed so far.
 use Rattle.std.proofs.Common.{◌≡◌}
-use Rattle.sim_talk.proofs.prompt_talk.PromptTalkTalk.hear.Given as goal
 
-abbrev pub invariant-loop : goal.invariant-loop
+abbrev pub invariant-loop : Rattle.sim_talk.proofs.prompt_talk.PromptTalkTalk.hear.Given.invariant-loop
 invariant-loop g l =
     record {
       read : (g.T.Talk.history l.self.talk).unread ≡ (g.T.Talk.history l.fn.self.talk).unread;

@@ -1,9 +1,8 @@
 -- The cell is wet, and waits.
 use Rattle.sim_territory.proofs.Common.{get_or-set_same, get_or_default, ground_size, inr, length-append, place_of, places-apart, subst, sum_by-set, sym, ◌∙◌}
 use Rattle.sim_territory.proofs.Common.{◌≡◌, ℕ, ◌*◌, ◌<◌, Bool, true, false, cond, not, [], ◌∷◌, length, get_or, set, refl, ap, arith, get_or-set_other}
-use Rattle.sim_territory.proofs.flood.Flood.wet.Goals as goal
 
-pub returns-in_ok-push : goal.returns-in_ok-push
+pub returns-in_ok-push : Rattle.sim_territory.proofs.flood.Flood.wet.Goals.returns-in_ok-push
 returns-in_ok-push c =
     let old = c.args.self.now in
     let flags = old.flags.items in

@@ -1,8 +1,7 @@
 -- The holders are found where the shift changed something.
 use Rattle.sim_territory.proofs.{Common.AreFoundNear, Common.Mark, Common.subst, Finding.shift_found}
-use Rattle.sim_territory.proofs.influences.Influences.shift.Goals as goal
 
-pub invariant_of-self : goal.invariant_of-self
+pub invariant_of-self : Rattle.sim_territory.proofs.influences.Influences.shift.Goals.invariant_of-self
 invariant_of-self c =
     let held = c.args.self.now.holders.items in
     let found = c.find_near.new.holders.items in

@@ -1,8 +1,7 @@
 use Rattle.sim_territory.proofs.Common.{◌≡◌, ◌*◌, ◌≤◌, length, ap, arith, influences_in, RealmOf, subst, sym, ◌∙◌}
 use Rattle.sim_territory.proofs.Keeping.{layer_listed}
-use Rattle.sim_territory.proofs.realm.Realm.influence.Goals as goal
 
-pub returns : goal.returns
+pub returns : Rattle.sim_territory.proofs.realm.Realm.influence.Goals.returns
 returns c =
     let in_it = c.self.inside in
     let sums = in_it.influences.sums in

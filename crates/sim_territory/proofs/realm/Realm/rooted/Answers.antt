@@ -1,9 +1,8 @@
 -- The flood has come to the rooted cells.
 use Rattle.sim_territory.proofs.{Common.size_in, Common.subst, Common.sym, Common.◌∙◌, Rooting.rooted_found}
 use Rattle.sim_territory.proofs.Common.{◌≡◌, ℕ, ◌*◌, Bool, List, length, AreRooted, arith, Fills, ground_of, ground_size, IsWetAt, Mark, RealmOf, roots_of}
-use Rattle.sim_territory.proofs.realm.Realm.rooted.Goals as goal
 
-pub returns : goal.returns
+pub returns : Rattle.sim_territory.proofs.realm.Realm.rooted.Goals.returns
 returns c =
     let in_it = c.self.inside in
     let setup = in_it.setup.now in

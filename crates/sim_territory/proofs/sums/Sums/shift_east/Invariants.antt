@@ -1,7 +1,6 @@
 use Rattle.sim_territory.proofs.Common.{◌≤◌, in_part, share_where, SumsMove}
-use Rattle.sim_territory.proofs.sums.Sums.shift_east.Given as goal
 
-abbrev pub invariant-loop-x : goal.invariant-loop-x
+abbrev pub invariant-loop-x : Rattle.sim_territory.proofs.sums.Sums.shift_east.Given.invariant-loop-x
 invariant-loop-x l = record {
   from : l.it.cell.x ≤ l.x;
   moved : SumsMove l.comes (share_where (in_part l.z l.it.cell.x l.x) l.it) l.initial.self l.self;

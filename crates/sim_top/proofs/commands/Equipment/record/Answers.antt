@@ -1,9 +1,8 @@
 -- The match and the steps were read and the session recorded, or one could not be read.
-use Rattle.sim_session.specs.Recording.{released_turns}
-use Rattle.sim_top.proofs.{Answering.match_ends, Recorded.record_ends, Recorded.record_goes_on, Recorded.record_opens}
-use Rattle.sim_top.proofs.Common.{log_after, logged_as, session_match_in, session_of, shelved, status_made, steps_in, Stop, subst, sym, to_record}
-use Rattle.sim_top.proofs.Common.{◌≡◌, List, IfSome, Some, Ok, Err, Option, Result, codes, Answer, File, IsAnswerTo, RigsCameBackBy, rules}
-use Rattle.sim_top.proofs.Returning.{record_played, rigs_left}
+use Rattle.{sim_session.specs.Recording.released_turns, sim_top.proofs.Answering.match_ends}
+use Rattle.sim_top.proofs.Common.{◌≡◌, Answer, codes, Err, File, IfSome, IsAnswerTo, List, log_after, logged_as, Ok, Option, Result, RigsCameBackBy, rules}
+use Rattle.sim_top.proofs.Common.{session_match_in, session_of, shelved, Some, status_made, steps_in, Stop, subst, sym, to_record}
+use Rattle.sim_top.proofs.{Recorded.record_ends, Recorded.record_goes_on, Recorded.record_opens, Returning.record_played, Returning.rigs_left}
 use Rattle.sim_top.proofs.commands.Equipment.record.Goals as goal
 
 pub returns-in_err-setup-clause-answer : goal.returns-in_err-setup-clause-answer

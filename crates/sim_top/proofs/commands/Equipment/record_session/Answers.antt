@@ -1,13 +1,11 @@
 -- All rigs are handed to the session and come back cleared; then the first plays the log of its released turns, or there was no memory.
-use Rattle.{sim_client.specs.StageWords.AreCleared, sim_session.specs.SessionWords.rigs_by, sim_session.specs.Recording.released_turns}
-use Rattle.{sim_laws.specs.CommandLaws.IsOrderOf, sim_top.proofs.Returning.All-unmap, std.proofs.lemmas.List.Elements.All-map}
-use Rattle.sim_base.specs.declared.command.PlayerCommand.{PlayerCommand}
-use Rattle.sim_session.{proofs.Builds.all_built_so, proofs.Builds.none_built, specs.Rigs.AllBuiltAtMost, specs.Rigs.builds_of}
-use Rattle.std.specs.Prelude.{if◌then◌else◌, ◌==◌}
-use Rattle.sim_top.proofs.Common.{◌≡◌, ◌≤◌, List, length, drop, Ok, codes, All, ap, arith, HaveKinds, IsMade, log_after, logged_as, rules}
-use Rattle.sim_top.proofs.Common.{session_of, state_after, subst, sym, systems_by, ◌∙◌}
-use Rattle.sim_top.proofs.Recorded.{behind_first, few_released, first_built, of_ok, recorded_so, released_players}
-use Rattle.sim_top.specs.{Hosting.builds_with_log, Rigs.HasPlayedBy, Rigs.OfFirsts}
+use Rattle.{sim_base.specs.declared.command.PlayerCommand.PlayerCommand, sim_client.specs.StageWords.AreCleared, sim_laws.specs.CommandLaws.IsOrderOf}
+use Rattle.sim_session.{proofs.Builds.all_built_so, proofs.Builds.none_built, specs.Recording.released_turns, specs.Rigs.AllBuiltAtMost, specs.Rigs.builds_of}
+use Rattle.{sim_session.specs.SessionWords.rigs_by, sim_top.proofs.Common.◌∙◌, sim_top.proofs.Common.◌≡◌, sim_top.proofs.Common.◌≤◌, sim_top.proofs.Common.All}
+use Rattle.sim_top.proofs.Common.{ap, arith, codes, drop, HaveKinds, IsMade, length, List, log_after, logged_as, Ok, rules, session_of, state_after, subst, sym}
+use Rattle.sim_top.proofs.{Common.systems_by, Recorded.behind_first, Recorded.few_released, Recorded.first_built, Recorded.of_ok, Recorded.recorded_so}
+use Rattle.sim_top.{proofs.Recorded.released_players, proofs.Returning.All-unmap, specs.Hosting.builds_with_log, specs.Rigs.HasPlayedBy, specs.Rigs.OfFirsts}
+use Rattle.std.{proofs.lemmas.List.Elements.All-map, specs.Prelude.if◌then◌else◌, specs.Prelude.◌==◌}
 use Rattle.sim_top.proofs.commands.Equipment.record_session.Goals as goal
 
 pub released_turns-turns-requires-clause-begins : goal.released_turns-turns-requires-clause-begins

@@ -1,7 +1,6 @@
 -- The line of the trial is printed, or there was no memory.
-use Rattle.sim_play.specs.Lines.{trial_line}
-use Rattle.sim_top.proofs.{Common.after, Common.arith, Common.own_turns, Common.State, Playing.made_if, Playing.text_if, Playing.text_made}
-use Rattle.sim_top.proofs.{Playing.text_of_state}
+use Rattle.{sim_play.specs.Lines.trial_line, sim_top.proofs.Common.after}
+use Rattle.sim_top.proofs.{Common.arith, Common.own_turns, Common.State, Playing.made_if, Playing.text_if, Playing.text_made, Playing.text_of_state}
 use Rattle.sim_top.proofs.commands.Equipment.tried.Goals as goal
 
 pub state_at-state-requires : goal.state_at-state-requires

@@ -1,7 +1,6 @@
-use Rattle.std.proofs.lemmas.List.{length-drop, take_all}
-use Rattle.std.proofs.Common.{take}
-use Rattle.sim_tree.proofs.Common.{◌≡◌, ℕ, ◌-◌, List, ◌∷◌, length, drop, arith, Some, None, ap, child_named, drop_more, node_of, rules, sym, under, value_at, ◌∙◌}
-use Rattle.sim_tree.proofs.Steps.{at_child_of, at_no_child}
+use Rattle.sim_tree.proofs.Common.{◌-◌, ◌∙◌, ◌∷◌, ◌≡◌, ap, arith, child_named, drop, drop_more, length, List, node_of, None, rules, Some, sym, under, value_at}
+use Rattle.sim_tree.proofs.{Common.ℕ, Steps.at_child_of, Steps.at_no_child}
+use Rattle.std.proofs.{Common.take, lemmas.List.length-drop, lemmas.List.take_all}
 use Rattle.sim_tree.proofs.tree.Tree.+at.Goals as goal
 
 pub returns-in_err-child-in-len1-up : goal.returns-in_err-child-in-len1-up

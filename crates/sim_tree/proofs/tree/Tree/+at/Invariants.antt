@@ -1,5 +1,4 @@
 use Rattle.sim_tree.proofs.Common.{length}
-use Rattle.sim_tree.proofs.tree.Tree.+at.Given as goal
 
-abbrev pub decreases-at : goal.decreases-at
+abbrev pub decreases-at : Rattle.sim_tree.proofs.tree.Tree.+at.Given.decreases-at
 decreases-at l = length l.path.now

@@ -1,8 +1,7 @@
 -- A fog that takes over cells among which are all that it counts is kept.
 use Rattle.sim_vision.proofs.{Common.length, Common.ap, Common.sym, Common.Vision, Common.◌∙◌, Joining.keeps_joined}
-use Rattle.sim_vision.proofs.sight.Sight.take_over.Goals as goal
 
-pub invariant_of-self : goal.invariant_of-self
+pub invariant_of-self : Rattle.sim_vision.proofs.sight.Sight.take_over.Goals.invariant_of-self
 invariant_of-self c =
     let s = c.self.inside in
     let long = c.requires.length ∙ ap (λ (v : Vision). length v.explored) (sym c.self.view_is) in

@@ -1,8 +1,7 @@
 -- The groups after the change are those of the facts after it.
 use Rattle.sim_watch.proofs.Aiming.{gone_groups}
-use Rattle.sim_watch.proofs.watch.Watch.let_go.Goals as goal
 
-pub invariant_of-self : goal.invariant_of-self
+pub invariant_of-self : Rattle.sim_watch.proofs.watch.Watch.let_go.Goals.invariant_of-self
 invariant_of-self c =
     let s = c.args.self.now in
     record {

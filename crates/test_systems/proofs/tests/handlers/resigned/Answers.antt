@@ -2,9 +2,8 @@ use Rattle.{sim_base.specs.declared.change.Change.TheVariants.Owner, sim_base.sp
 use Rattle.std.proofs.Common.{cond, List, [], ◌∷◌, flat_map, ap, sym, ◌∙◌}
 use Rattle.sim_orders.proofs.Planning.{plan_obeys, resigns}
 use Rattle.sim_plans.{proofs.Answered.of_answer, specs.CommandPlans.command_plan_by}
-use Rattle.test_systems.proofs.tests.handlers.resigned.Goals as goal
 
-pub returns : goal.returns
+pub returns : Rattle.test_systems.proofs.tests.handlers.resigned.Goals.returns
 returns c =
     let setup = c.args.setup.now in
     let state = c.args.state.now in

@@ -1,8 +1,7 @@
 use Rattle.{sim_client.specs.StageWords.AreCleared, test_systems.proofs.tests.sharing.forgetting.OwnLists.own-1}
 use Rattle.{sim_system.specs.Meanings.HaveKinds, sim_system.specs.RigWords.systems_by, std.proofs.Common.◌≡◌, std.proofs.Common.length, std.proofs.Common.All}
-use Rattle.test_systems.proofs.tests.sharing.forgetting.Given as goal
 
-abbrev pub invariant-loop : goal.invariant-loop
+abbrev pub invariant-loop : Rattle.test_systems.proofs.tests.sharing.forgetting.Given.invariant-loop
 invariant-loop l =
     record {
       count : length l.rigs.items ≡ l.counter;
