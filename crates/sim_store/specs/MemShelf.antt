@@ -1,7 +1,7 @@
 -- What a shelf in memory means.
-use Rattle.std.specs.Prelude.{ℕ, Bool, List, is_some, if◌then◌else◌, Some, None, Option, option_map}
+use Rattle.std.specs.Prelude.{◌≡◌, ℕ, Bool, ◌↔◌, List, is_some, if◌then◌else◌, IsTrue, Some, None, Option, option_map}
 use Rattle.sim_store.specs.{Calls.calls_in, Calls.is_next_listed, Calls.listed_in, declared.counts.Counts.Counts, declared.mem_shelf.MemShelf.MemShelf}
-use Rattle.sim_store.specs.{Files.File, Held.files_of, Held.first_bytes, Held.first_name, OpenFile.bytes_left}
+use Rattle.sim_store.specs.{Counts.raised, Files.File, Held.files_of, Held.first_bytes, Held.first_name, OpenFile.bytes_left, Shelf.KeepsFiles, Shelf.KeepsReading}
 
 -- the files that the shelf holds
 abbrev pub files_on : MemShelf → List File
@@ -46,3 +46,27 @@ failing_on shelf = listed_in shelf.calls
 -- whether the next call of the shelf is to fail
 abbrev pub fails_next_on : MemShelf → Bool
 fails_next_on shelf = is_next_listed shelf.calls
+
+-- ---- what a call leaves as it was
+
+-- all files are as they were, and so is the one that is being made
+abbrev pub AreFilesKept : MemShelf → MemShelf → Type 0
+AreFilesKept old new = KeepsFiles files_on is_making_on made_name_on made_on old new
+
+-- it was no call of `Shelf`: none was counted and nothing was moved, and a made file has the same room
+pub record IsNoCall (old new : MemShelf) : Type 0 where
+  pub calls : calls_on new ≡ calls_on old
+  pub room : room_on new ≡ room_on old
+  pub counts : counts_on new ≡ counts_on old
+  pub reading : KeepsReading is_open_on rest_on old new
+
+-- it was one call of `Shelf`, and which calls are to fail and the room of a made file are the same
+pub record IsCall (old new : MemShelf) : Type 0 where
+  pub calls : calls_on new ≡ raised 1 (calls_on old)
+  pub failing : failing_on new ≡ failing_on old
+  pub room : room_on new ≡ room_on old
+
+-- it was one call, which failed exactly where it is listed to fail
+pub record IsListedCall (failed : Type 0) (old new : MemShelf) : Type 0 where
+  pub fails : failed ↔ IsTrue (fails_next_on old)
+  pub counted : IsCall old new

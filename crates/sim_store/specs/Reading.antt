@@ -3,6 +3,7 @@ use Rattle.{sim_base.specs.Limits.file_limit, sim_store.specs.Counts.after_givin
 use Rattle.{sim_store.specs.declared.counts.Counts.Counts, sim_store.specs.declared.fault.StoreFault.StoreFault, std.specs.declared.alloc.Global.Global}
 use Rattle.std.specs.Prelude.{◌≡◌, ℕ, ◌+◌, ◌<◌, ◌≤◌, Bool, ◌≢◌, List, length, if◌then◌else◌, IsTrue, IsFalse, nat_le, Some, None, Ok, Err, Option, Result, Vec}
 use Rattle.sim_store.specs.declared.fault.StoreFault.TheVariants.{NoFile, OutOfMemory, ReadFault, TooLong, WriteFault}
+use Rattle.{sim_store.specs.declared.shelf.Shelf.Ghosts, sim_store.specs.Shelf.KeepsFiles, std.specs.Io.KnownBytes.IsAtEnd, std.specs.Prelude.OnOk}
 
 -- the bytes, unless they are more than a file may have
 abbrev pub within_limit : List ℕ → Result (List ℕ) StoreFault
@@ -53,3 +54,10 @@ LeavesOpen (Ok bytes) open_now = IsTrue open_now
 LeavesOpen (Err TooLong) open_now = IsTrue open_now
 LeavesOpen (Err NoFile) open_now = IsFalse open_now
 LeavesOpen (Err other) open_now = Unit {0}
+
+-- What reading the rest of a file, or a whole one, does to a shelf: it counts by its answer, and all files are as they were. After a whole
+-- file there is no more to read.
+pub record ReadsUp {S : Type 0} (result : Result (Vec ℕ Global) StoreFault) (shelf : Ghosts S) (old new : S) : Type 0 where
+  pub causes : ReadCauses result (shelf.counts old) (shelf.counts new)
+  pub end : OnOk result (IsAtEnd (shelf.rest new))
+  pub files : KeepsFiles shelf.held shelf.is_making shelf.made_name shelf.made old new

@@ -4,6 +4,19 @@ use Rattle.sim_store.specs.{Counts.after_giving, Counts.after_miss, Counts.after
 use Rattle.sim_store.specs.declared.{counts.Counts.Counts, fault.Failed.Failed, fault.ShelfFault.ShelfFault}
 use Rattle.sim_store.specs.declared.fault.ShelfFault.TheVariants as fault
 
+-- All files are as they were, and so is the one that is being made. A clause passes what the shelf means by them.
+pub record KeepsFiles {S A : Type 0} (held_on : S → A) (is_making_on : S → Bool) (made_name_on : S → List ℕ) (made_on : S → Option (List ℕ))
+    (old new : S) : Type 0 where
+  pub held : held_on new ≡ held_on old
+  pub making : is_making_on new ≡ is_making_on old
+  pub name : made_name_on new ≡ made_name_on old
+  pub made : made_on new ≡ made_on old
+
+-- a file that is open for reading stays so, and as much of it is left
+pub record KeepsReading {S : Type 0} (is_open_on : S → Bool) (rest_on : S → Option (List ℕ)) (old new : S) : Type 0 where
+  pub opened : is_open_on new ≡ is_open_on old
+  pub rest : rest_on new ≡ rest_on old
+
 -- whether an `open` leaves a file open: only where it answers true
 abbrev pub opens : Result Bool ShelfFault → Bool
 opens (Ok found) = found

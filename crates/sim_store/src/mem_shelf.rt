@@ -1,11 +1,10 @@
 //! A shelf in memory. Whoever wants to run the program without files, tests above all, hands it in; its room makes a
 //! full disk at any place, and its list of calls makes any call fail.
 
-ghost use Rattle.std.specs.Io.{ReadsAtMost, KnownBytes.ReadConsumes, KnownBytes.WriteAppends};
 ghost use Rattle.std.specs.Prelude.{IsTrue, IsFalse, Some, None, vec_len, option_copied};
 ghost use Rattle.std.specs.Prelude.{◌≡◌, ℕ, ◌+◌, ◌<◌, ◌≤◌, min, false, ◌≢◌, ◌↔◌, List, [], ◌∷◌, ◌++◌, length, drop, is_ok, IfOk, OnOk, OnErr, IsOk, IsErr};
-ghost use Rattle.sim_store.specs.{Counts.no_counts, Counts.raised, Files.file_in, Files.FileSet, Held.first_bytes, Held.first_capacity, Pieces.TakesSome};
-ghost use Rattle.sim_store.specs.Shelf.{MakeCounts, MakeHolds, OpenCounts, opens, OpenTells, ReadCounts, WriteCounts, WriteHolds};
+ghost use Rattle.sim_store.specs.{Counts.no_counts, Files.file_in, Files.FileSet, Held.first_bytes, Held.first_capacity, Pieces.Adds, Pieces.Moves};
+ghost use Rattle.sim_store.specs.Shelf.{KeepsReading, MakeCounts, MakeHolds, OpenCounts, opens, OpenTells, ReadCounts, WriteCounts, WriteHolds};
 
 use crate::held::{Held, add_to_first, find, put_first};
 use crate::open_file::OpenFile;
@@ -30,7 +29,7 @@ pub struct MemShelf {
 }
 
 impl MemShelf {
-    ghost use Rattle.sim_store.specs.MemShelf.{calls_on, counts_on, failing_on, files_on, is_making_on, is_open_on, made_name_on, made_on, rest_on, room_on};
+    ghost use Rattle.sim_store.specs.MemShelf.{AreFilesKept, calls_on, counts_on, failing_on, files_on, is_making_on, is_open_on, IsNoCall, room_on};
 
     /// A shelf that holds nothing. It keeps the allocator, and each file that is made on it has this room. It takes no
     /// memory yet.
@@ -59,17 +58,10 @@ impl MemShelf {
     /// name holds what was written so far. Without memory nothing changes.
     pub fn put(&mut self, name: &str, bytes: &[u8]) -> Result<(), OutOfMemory>
         ensures ok { OnOk result (FileSet name.now bytes.now (files_on self.old) (files_on self.new)) }
-        ensures err { OnErr result (files_on self.new ≡ files_on self.old) }
+        ensures err { OnErr result (AreFilesKept self.old self.new) }
         ensures ends { OnOk result (is_making_on self.new ≡ false) }
-        ensures making { OnErr result (is_making_on self.new ≡ is_making_on self.old) }
-        ensures name { OnErr result (made_name_on self.new ≡ made_name_on self.old) }
-        ensures made { OnErr result (made_on self.new ≡ made_on self.old) }
-        ensures room { room_on self.new ≡ room_on self.old }
-        ensures counts { counts_on self.new ≡ counts_on self.old }
-        ensures opened { is_open_on self.new ≡ is_open_on self.old }
-        ensures rest { rest_on self.new ≡ rest_on self.old }
-        ensures calls { calls_on self.new ≡ calls_on self.old }
         ensures failing { failing_on self.new ≡ failing_on self.old }
+        ensures no_call { IsNoCall self.old self.new }
     {
         let bytes = bytes.to_vec(self.alloc)?;
         put_first(self.alloc, &mut self.files, name, bytes)?;
@@ -89,15 +81,8 @@ impl MemShelf {
     pub fn fail_at(&mut self, call: u64) -> Result<(), OutOfMemory>
         ensures ok { OnOk result (failing_on self.new ≡ failing_on self.old ++ call ∷ []) }
         ensures err { OnErr result (failing_on self.new ≡ failing_on self.old) }
-        ensures calls { calls_on self.new ≡ calls_on self.old }
-        ensures files { files_on self.new ≡ files_on self.old }
-        ensures room { room_on self.new ≡ room_on self.old }
-        ensures counts { counts_on self.new ≡ counts_on self.old }
-        ensures opened { is_open_on self.new ≡ is_open_on self.old }
-        ensures rest { rest_on self.new ≡ rest_on self.old }
-        ensures making { is_making_on self.new ≡ is_making_on self.old }
-        ensures name { made_name_on self.new ≡ made_name_on self.old }
-        ensures made { made_on self.new ≡ made_on self.old }
+        ensures files { AreFilesKept self.old self.new }
+        ensures no_call { IsNoCall self.old self.new }
     {
         self.calls.list(call)?;
         Ok(())
@@ -112,8 +97,8 @@ impl MemShelf {
 }
 
 impl Shelf for MemShelf {
-    ghost use Rattle.sim_store.specs.MemShelf.{calls_on, counts_on, failing_on, fails_next_on, files_on, is_making_on, is_open_on, made_name_on, made_on};
-    ghost use Rattle.sim_store.specs.MemShelf.{rest_on, room_on};
+    ghost use Rattle.sim_store.specs.MemShelf.{AreFilesKept, counts_on, fails_next_on, files_on, is_making_on, is_open_on, IsCall, IsListedCall};
+    ghost use Rattle.sim_store.specs.MemShelf.{made_name_on, made_on, rest_on, room_on};
 
     ghost held = { λ shelf. Some (files_on shelf) };
 
@@ -131,18 +116,12 @@ impl Shelf for MemShelf {
 
     /// Fails where the call is listed, and for want of memory: it copies the file, unless that is empty.
     fn open(&mut self, name: &str) -> Result<bool, ShelfFault>
-        ensures fails { (result ≡ Err ShelfFault.Failed) ↔ IsTrue (fails_next_on self.old) }
-        ensures calls { calls_on self.new ≡ raised 1 (calls_on self.old) }
-        ensures failing { failing_on self.new ≡ failing_on self.old }
-        ensures room { room_on self.new ≡ room_on self.old }
+        ensures call { IsListedCall (result ≡ Err ShelfFault.Failed) self.old self.new }
         ensures opened { is_open_on self.new ≡ opens result }
         ensures tells { OpenTells result (file_in (files_on self.old) name.now) (rest_on self.new) }
         ensures empty { file_in (files_on self.old) name.now ≡ Some [] → result ≢ Err ShelfFault.OutOfMemory }
         ensures counts { OpenCounts result (counts_on self.old) (counts_on self.new) }
-        ensures held { files_on self.new ≡ files_on self.old }
-        ensures making { is_making_on self.new ≡ is_making_on self.old }
-        ensures name { made_name_on self.new ≡ made_name_on self.old }
-        ensures made { made_on self.new ≡ made_on self.old }
+        ensures files { AreFilesKept self.old self.new }
     {
         self.reading = None;
         if self.calls.count() {
@@ -161,21 +140,14 @@ impl Shelf for MemShelf {
     /// is listed, and leaves all of it.
     fn read(&mut self, into: &mut [u8]) -> Result<usize, Failed>
         requires { IsTrue (is_open_on self.old) }
-        ensures fails { IsErr result ↔ IsTrue (fails_next_on self.old) }
-        ensures calls { calls_on self.new ≡ raised 1 (calls_on self.old) }
-        ensures failing { failing_on self.new ≡ failing_on self.old }
-        ensures room { room_on self.new ≡ room_on self.old }
-        ensures bound { ReadsAtMost result into.new }
-        ensures bytes { ReadConsumes (rest_on self.old) (rest_on self.new) result into.new }
+        ensures call { IsListedCall (IsErr result) self.old self.new }
+        ensures moves { Moves result into.new (rest_on self.old) (rest_on self.new) }
         ensures gives { (left : List ℕ) → rest_on self.old ≡ Some left → IfOk result (λ count. count ≡ min (length left) (length into.new)) }
         ensures behind { IfOk result (λ count. drop count into.new ≡ drop count into.old) }
         ensures err { OnErr result (into.new ≡ into.old) }
         ensures opened { IsTrue (is_open_on self.new) }
         ensures counts { ReadCounts result (counts_on self.old) (counts_on self.new) }
-        ensures held { files_on self.new ≡ files_on self.old }
-        ensures making { is_making_on self.new ≡ is_making_on self.old }
-        ensures name { made_name_on self.new ≡ made_name_on self.old }
-        ensures made { made_on self.new ≡ made_on self.old }
+        ensures files { AreFilesKept self.old self.new }
     {
         if self.calls.count() {
             self.counts.add_read_fault();
@@ -191,17 +163,13 @@ impl Shelf for MemShelf {
 
     /// Fails where the call is listed, and for want of memory: it takes all the memory that the file will need.
     fn make(&mut self, name: &str) -> Result<(), ShelfFault>
-        ensures fails { (result ≡ Err ShelfFault.Failed) ↔ IsTrue (fails_next_on self.old) }
-        ensures calls { calls_on self.new ≡ raised 1 (calls_on self.old) }
-        ensures failing { failing_on self.new ≡ failing_on self.old }
-        ensures room { room_on self.new ≡ room_on self.old }
+        ensures call { IsListedCall (result ≡ Err ShelfFault.Failed) self.old self.new }
         ensures making { is_making_on self.new ≡ is_ok result }
         ensures name { OnOk result (made_name_on self.new ≡ name.now) }
         ensures made { OnOk result (made_on self.new ≡ Some []) }
         ensures held { MakeHolds result name.now (Some (files_on self.old)) (Some (files_on self.new)) }
         ensures counts { MakeCounts result (counts_on self.old) (counts_on self.new) }
-        ensures opened { is_open_on self.new ≡ is_open_on self.old }
-        ensures rest { rest_on self.new ≡ rest_on self.old }
+        ensures reading { KeepsReading is_open_on rest_on self.old self.new }
     {
         self.is_making = false;
         if self.calls.count() {
@@ -221,18 +189,14 @@ impl Shelf for MemShelf {
         ensures fails { IsTrue (fails_next_on self.old) → IsErr result }
         ensures fits { (bytes : List ℕ) → file_in (files_on self.old) (made_name_on self.old) ≡ Some bytes
             → (IsOk result ↔ (IsFalse (fails_next_on self.old) × (length bytes + length piece.now ≤ room_on self.old))) }
-        ensures calls { calls_on self.new ≡ raised 1 (calls_on self.old) }
-        ensures failing { failing_on self.new ≡ failing_on self.old }
+        ensures call { IsCall self.old self.new }
         ensures whole { IfOk result (λ count. count ≡ length piece.now) }
-        ensures room { room_on self.new ≡ room_on self.old }
-        ensures takes { TakesSome result piece.now }
         ensures held { WriteHolds result (made_name_on self.old) piece.now (Some (files_on self.old)) (Some (files_on self.new)) }
-        ensures made { WriteAppends (made_on self.old) (made_on self.new) result piece.now }
+        ensures adds { Adds result piece.now (made_on self.old) (made_on self.new) }
         ensures making { IsTrue (is_making_on self.new) }
         ensures name { made_name_on self.new ≡ made_name_on self.old }
         ensures counts { WriteCounts result (counts_on self.old) (counts_on self.new) }
-        ensures opened { is_open_on self.new ≡ is_open_on self.old }
-        ensures rest { rest_on self.new ≡ rest_on self.old }
+        ensures reading { KeepsReading is_open_on rest_on self.old self.new }
     {
         if self.calls.count() || add_to_first(&mut self.files, self.room, piece).is_err() {
             self.counts.add_write_fault();
@@ -244,15 +208,11 @@ impl Shelf for MemShelf {
     /// Fails where the call is listed.
     fn close(&mut self) -> Result<(), Failed>
         requires { IsTrue (is_making_on self.old) }
-        ensures fails { IsErr result ↔ IsTrue (fails_next_on self.old) }
-        ensures calls { calls_on self.new ≡ raised 1 (calls_on self.old) }
-        ensures failing { failing_on self.new ≡ failing_on self.old }
-        ensures room { room_on self.new ≡ room_on self.old }
+        ensures call { IsListedCall (IsErr result) self.old self.new }
         ensures making { is_making_on self.new ≡ false }
         ensures held { files_on self.new ≡ files_on self.old }
         ensures counts { WriteCounts result (counts_on self.old) (counts_on self.new) }
-        ensures opened { is_open_on self.new ≡ is_open_on self.old }
-        ensures rest { rest_on self.new ≡ rest_on self.old }
+        ensures reading { KeepsReading is_open_on rest_on self.old self.new }
     {
         self.is_making = false;
         if self.calls.count() {

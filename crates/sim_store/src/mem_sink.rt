@@ -1,7 +1,7 @@
 //! A sink in memory, which keeps what it is told. Whoever wants the text of a program without a terminal, tests above
 //! all, hands it in; its room makes a full disk at any place, and its list of calls makes any write fail.
 
-ghost use Rattle.{sim_store.specs.Counts.raised, sim_store.specs.Pieces.TakesSome, sim_store.specs.Sink.SinkCounts, std.specs.Io.KnownBytes.WriteAppends};
+ghost use Rattle.sim_store.specs.{Counts.raised, Pieces.Adds, Sink.SinkCounts};
 ghost use Rattle.std.specs.Prelude.{◌≡◌, ◌+◌, ◌≤◌, ◌↔◌, [], ◌∷◌, ◌++◌, length, IfOk, OnOk, OnErr, IsOk, IsFalse, Some, vec_len, vec_capacity};
 
 use crate::{Calls, Failed, Sink, one_more};
@@ -82,8 +82,7 @@ impl Sink for MemSink {
         ensures failing { failing_of self.new ≡ failing_of self.old }
         ensures whole { IfOk result (λ count. count ≡ length piece.now) }
         ensures room { room_in self.new ≡ room_in self.old }
-        ensures takes { TakesSome result piece.now }
-        ensures told { WriteAppends (Some (bytes_told self.old)) (Some (bytes_told self.new)) result piece.now }
+        ensures adds { Adds result piece.now (Some (bytes_told self.old)) (Some (bytes_told self.new)) }
         ensures counts { SinkCounts result (faults_of self.old) (faults_of self.new) }
     {
         if self.calls.count() || piece.len() > self.room - self.told.len() {

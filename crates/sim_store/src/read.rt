@@ -1,8 +1,8 @@
 //! Reading a whole file, over any shelf. It is the one way by which a file's bytes come into the program, so the limit
 //! on a file's length is kept here.
 
-ghost use Rattle.std.specs.{Io.KnownBytes.IsAtEnd, Prelude.◌≡◌, Prelude.◌≢◌, Prelude.IfSome, Prelude.OnOk, Prelude.IsTrue};
-ghost use Rattle.sim_store.specs.{Files.file_in, Reading.LeavesOpen, Reading.ReadCauses, Reading.reading_of, Reading.ReadMeets, Reading.within_limit};
+ghost use Rattle.std.specs.Prelude.{◌≢◌, IfSome, IsTrue};
+ghost use Rattle.sim_store.specs.{Files.file_in, Reading.LeavesOpen, Reading.reading_of, Reading.ReadMeets, Reading.ReadsUp, Reading.within_limit};
 
 use crate::{Shelf, ShelfFault, StoreFault};
 use std::alloc::Global;
@@ -16,12 +16,8 @@ const PIECE: usize = 4096;
 /// The whole file of this name. It stays open, read to its end.
 pub fn read_file<S: Shelf>(alloc: Global, shelf: &mut S, name: &str) -> Result<Vec<u8>, StoreFault>
     ensures tells { IfSome (S.held shelf.old) (λ files. ReadMeets result (reading_of (file_in files name.now))) }
-    ensures causes { ReadCauses result (S.counts shelf.old) (S.counts shelf.new) }
     ensures opened { LeavesOpen result (S.is_open shelf.new) }
-    ensures end { OnOk result (IsAtEnd (S.rest shelf.new)) }
-    ensures held { S.held shelf.new ≡ S.held shelf.old }
-    ensures making { S.is_making shelf.new ≡ S.is_making shelf.old }
-    ensures name { S.made_name shelf.new ≡ S.made_name shelf.old }
+    ensures reads { ReadsUp result S.Shelf shelf.old shelf.new }
 {
     match shelf.open(name) {
         Ok(true) => read_rest(alloc, shelf),
@@ -35,13 +31,9 @@ pub fn read_file<S: Shelf>(alloc: Global, shelf: &mut S, name: &str) -> Result<V
 fn read_rest<S: Shelf>(alloc: Global, shelf: &mut S) -> Result<Vec<u8>, StoreFault>
     requires { IsTrue (S.is_open shelf.old) }
     ensures tells { IfSome (S.rest shelf.old) (λ left. ReadMeets result (within_limit left)) }
-    ensures causes { ReadCauses result (S.counts shelf.old) (S.counts shelf.new) }
     ensures found { result ≢ Err StoreFault.NoFile }
     ensures opened { IsTrue (S.is_open shelf.new) }
-    ensures end { OnOk result (IsAtEnd (S.rest shelf.new)) }
-    ensures held { S.held shelf.new ≡ S.held shelf.old }
-    ensures making { S.is_making shelf.new ≡ S.is_making shelf.old }
-    ensures name { S.made_name shelf.new ≡ S.made_name shelf.old }
+    ensures reads { ReadsUp result S.Shelf shelf.old shelf.new }
 {
     let mut bytes = Vec::new(alloc);
     let mut piece = [0; PIECE];

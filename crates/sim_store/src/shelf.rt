@@ -1,10 +1,10 @@
 //! The trait of a shelf: files by name, one of which may be open for reading and one being made. It is a trait so that
 //! the program reads and writes through it alone, and is proved for every shelf that keeps these promises.
 
-ghost use Rattle.std.specs.Io.{ReadsAtMost, KnownBytes.IsAtEnd, KnownBytes.ReadConsumes, KnownBytes.WriteAppends};
+ghost use Rattle.std.specs.Io.KnownBytes.{IsAtEnd};
 ghost use Rattle.std.specs.Prelude.{◌≡◌, ℕ, Bool, false, List, IfSome, is_ok, OnOk, IsTrue, Option};
-ghost use Rattle.sim_store.specs.{Files.File, Files.file_in, Pieces.TakesSome, declared.counts.Counts.Counts};
-ghost use Rattle.sim_store.specs.Shelf.{MakeCounts, MakeHolds, OpenCounts, opens, OpenTells, ReadCounts, WriteCounts, WriteHolds};
+ghost use Rattle.sim_store.specs.{Files.File, Files.file_in, Pieces.Adds, Pieces.Moves, declared.counts.Counts.Counts};
+ghost use Rattle.sim_store.specs.Shelf.{KeepsFiles, KeepsReading, MakeCounts, MakeHolds, OpenCounts, opens, OpenTells, ReadCounts, WriteCounts, WriteHolds};
 
 use crate::fault::{Failed, ShelfFault};
 
@@ -38,23 +38,16 @@ pub trait Shelf {
         ensures opened { is_open self.new ≡ opens result }
         ensures tells { IfSome (held self.old) (λ files. OpenTells result (file_in files name.now) (rest self.new)) }
         ensures counts { OpenCounts result (counts self.old) (counts self.new) }
-        ensures held { held self.new ≡ held self.old }
-        ensures making { is_making self.new ≡ is_making self.old }
-        ensures name { made_name self.new ≡ made_name self.old }
-        ensures made { made self.new ≡ made self.old };
+        ensures files { KeepsFiles held is_making made_name made self.old self.new };
 
     /// Moves the next bytes of the open file to the buffer's start, and answers how many. Where the buffer has room, 0
     /// is the end of the file.
     fn read(&mut self, into: &mut [u8]) -> Result<usize, Failed>
         requires { IsTrue (is_open self.old) }
-        ensures bound { ReadsAtMost result into.new }
-        ensures bytes { ReadConsumes (rest self.old) (rest self.new) result into.new }
+        ensures moves { Moves result into.new (rest self.old) (rest self.new) }
         ensures opened { IsTrue (is_open self.new) }
         ensures counts { ReadCounts result (counts self.old) (counts self.new) }
-        ensures held { held self.new ≡ held self.old }
-        ensures making { is_making self.new ≡ is_making self.old }
-        ensures name { made_name self.new ≡ made_name self.old }
-        ensures made { made self.new ≡ made self.old };
+        ensures files { KeepsFiles held is_making made_name made self.old self.new };
 
     /// Begins an empty file of this name, in place of what the name held. If it is refused, none is being made.
     fn make(&mut self, name: &str) -> Result<(), ShelfFault>
@@ -63,20 +56,17 @@ pub trait Shelf {
         ensures made { OnOk result (IsAtEnd (made self.new)) }
         ensures held { MakeHolds result name.now (held self.old) (held self.new) }
         ensures counts { MakeCounts result (counts self.old) (counts self.new) }
-        ensures opened { is_open self.new ≡ is_open self.old }
-        ensures rest { rest self.new ≡ rest self.old };
+        ensures reading { KeepsReading is_open rest self.old self.new };
 
     /// Adds the beginning of the piece at the end of the file that is being made, and answers how much of it.
     fn write(&mut self, piece: &[u8]) -> Result<usize, Failed>
         requires { IsTrue (is_making self.old) }
-        ensures takes { TakesSome result piece.now }
-        ensures made { WriteAppends (made self.old) (made self.new) result piece.now }
+        ensures adds { Adds result piece.now (made self.old) (made self.new) }
         ensures held { WriteHolds result (made_name self.old) piece.now (held self.old) (held self.new) }
         ensures making { IsTrue (is_making self.new) }
         ensures name { made_name self.new ≡ made_name self.old }
         ensures counts { WriteCounts result (counts self.old) (counts self.new) }
-        ensures opened { is_open self.new ≡ is_open self.old }
-        ensures rest { rest self.new ≡ rest self.old };
+        ensures reading { KeepsReading is_open rest self.old self.new };
 
     /// Ends the file that is being made, also where it fails.
     fn close(&mut self) -> Result<(), Failed>
@@ -84,6 +74,5 @@ pub trait Shelf {
         ensures making { is_making self.new ≡ false }
         ensures held { held self.new ≡ held self.old }
         ensures counts { WriteCounts result (counts self.old) (counts self.new) }
-        ensures opened { is_open self.new ≡ is_open self.old }
-        ensures rest { rest self.new ≡ rest self.old };
+        ensures reading { KeepsReading is_open rest self.old self.new };
 }

@@ -1,8 +1,8 @@
 //! The trait of a sink: where the program's text goes. It is a trait so that the program is proved for every sink that
 //! keeps these promises, be it standard output or a list of bytes.
 
-ghost use Rattle.std.specs.{Io.KnownBytes.WriteAppends, Prelude.ℕ, Prelude.List, Prelude.Option};
-ghost use Rattle.sim_store.specs.{Pieces.TakesSome, Sink.SinkCounts};
+ghost use Rattle.std.specs.Prelude.{ℕ, List, Option};
+ghost use Rattle.sim_store.specs.{Pieces.Adds, Sink.SinkCounts};
 
 use crate::fault::Failed;
 
@@ -16,7 +16,6 @@ pub trait Sink {
 
     /// Adds the beginning of the piece at the end of what was told, and answers how much of it.
     fn write(&mut self, piece: &[u8]) -> Result<usize, Failed>
-        ensures takes { TakesSome result piece.now }
-        ensures told { WriteAppends (told self.old) (told self.new) result piece.now }
+        ensures adds { Adds result piece.now (told self.old) (told self.new) }
         ensures counts { SinkCounts result (faults self.old) (faults self.new) };
 }

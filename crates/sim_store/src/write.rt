@@ -2,7 +2,7 @@
 //! the parts are put together, so that nobody else has to.
 
 ghost use Rattle.std.specs.Prelude.{◌≡◌, false, IsTrue};
-ghost use Rattle.sim_store.specs.Shelf.{HeldEmpty, WriteCounts};
+ghost use Rattle.sim_store.specs.Shelf.{HeldEmpty, KeepsReading, WriteCounts};
 ghost use Rattle.sim_store.specs.Writing.{FileCauses, FileMeets, Fills, IsFilled, OutCauses, OutMeets};
 
 use crate::{Failed, Shelf, ShelfFault, Sink, StoreFault};
@@ -27,8 +27,7 @@ pub fn write_file<S: Shelf>(shelf: &mut S, name: &str, bytes: &[u8]) -> Result<(
     ensures held { FileMeets result name.now bytes.now (S.held shelf.old) (S.held shelf.new) }
     ensures causes { FileCauses result (S.counts shelf.old) (S.counts shelf.new) }
     ensures making { S.is_making shelf.new ≡ false }
-    ensures opened { S.is_open shelf.new ≡ S.is_open shelf.old }
-    ensures rest { S.rest shelf.new ≡ S.rest shelf.old }
+    ensures reading { KeepsReading S.is_open S.rest shelf.old shelf.new }
 {
     match shelf.make(name) {
         Ok(()) => {}
@@ -52,8 +51,7 @@ fn fill<S: Shelf>(shelf: &mut S, bytes: &[u8]) -> Result<(), Failed>
     ensures counts { WriteCounts result (S.counts shelf.old) (S.counts shelf.new) }
     ensures making { IsTrue (S.is_making shelf.new) }
     ensures name { S.made_name shelf.new ≡ S.made_name shelf.old }
-    ensures opened { S.is_open shelf.new ≡ S.is_open shelf.old }
-    ensures rest { S.rest shelf.new ≡ S.rest shelf.old }
+    ensures reading { KeepsReading S.is_open S.rest shelf.old shelf.new }
 {
     let mut done = 0;
     while done < bytes.len() {

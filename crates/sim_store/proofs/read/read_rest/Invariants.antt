@@ -1,6 +1,6 @@
 -- What was read so far: it is the beginning of what was left, it is counted, and it is within the limit.
 use Rattle.std.{proofs.Common.◌≡◌, proofs.Common.◌-◌, proofs.Common.◌≤◌, proofs.Common.length, proofs.Common.IsTrue, specs.Io.KnownBytes.Consumes}
-use Rattle.sim_store.specs.{Counts.after_giving, declared.read.TheConstants.MAX_FILE}
+use Rattle.sim_store.specs.{Counts.after_giving, Shelf.KeepsFiles, declared.read.TheConstants.MAX_FILE}
 use Rattle.sim_store.proofs.read.read_rest.Given as goal
 
 abbrev pub invariant-pieces : goal.invariant-pieces
@@ -9,9 +9,7 @@ invariant-pieces g l = record {
   told : Consumes (g.S.Shelf.rest l.fn.shelf) (g.S.Shelf.rest l.shelf) l.bytes.items;
   counts : g.S.Shelf.counts l.shelf ≡ after_giving (length l.bytes.items) (g.S.Shelf.counts l.fn.shelf);
   opened : IsTrue (g.S.Shelf.is_open l.shelf);
-  held : g.S.Shelf.held l.shelf ≡ g.S.Shelf.held l.fn.shelf;
-  making : g.S.Shelf.is_making l.shelf ≡ g.S.Shelf.is_making l.fn.shelf;
-  name : g.S.Shelf.made_name l.shelf ≡ g.S.Shelf.made_name l.fn.shelf;
+  files : KeepsFiles g.S.Shelf.held g.S.Shelf.is_making g.S.Shelf.made_name g.S.Shelf.made l.fn.shelf l.shelf;
 }
 
 abbrev pub decreases-pieces : goal.decreases-pieces

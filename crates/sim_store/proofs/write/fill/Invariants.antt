@@ -1,5 +1,5 @@
 -- What the file holds so far is the beginning of the bytes, and nothing has failed.
-use Rattle.{sim_store.specs.Shelf.HeldSet, std.specs.Io.KnownBytes.Appends}
+use Rattle.{sim_store.specs.Shelf.HeldSet, sim_store.specs.Shelf.KeepsReading, std.specs.Io.KnownBytes.Appends}
 use Rattle.std.proofs.Common.{◌≡◌, ◌-◌, ◌≤◌, length, take, IsTrue}
 use Rattle.sim_store.proofs.write.fill.Given as goal
 
@@ -11,8 +11,7 @@ invariant-loop-done g l = record {
   counts : g.S.Shelf.counts l.shelf ≡ g.S.Shelf.counts l.fn.shelf;
   making : IsTrue (g.S.Shelf.is_making l.shelf);
   name : g.S.Shelf.made_name l.shelf ≡ g.S.Shelf.made_name l.fn.shelf;
-  opened : g.S.Shelf.is_open l.shelf ≡ g.S.Shelf.is_open l.fn.shelf;
-  rest : g.S.Shelf.rest l.shelf ≡ g.S.Shelf.rest l.fn.shelf;
+  reading : KeepsReading g.S.Shelf.is_open g.S.Shelf.rest l.fn.shelf l.shelf;
 }
 
 abbrev pub decreases-loop-done : goal.decreases-loop-done
