@@ -4,6 +4,7 @@ pub mod Lines
 pub mod Marks
 pub mod Talks
 pub mod LineTalk
+pub mod Halves
 pub mod Dialogues
 pub mod MemSource
 pub mod MemTalk

@@ -4,6 +4,7 @@ use Rattle.sim_talk.specs.{Lines.HearsOf, Lines.MissesOf, Lines.ReadCounts, Talk
 use Rattle.std.specs.Io.KnownBytes.{Consumes, IsAtEnd, Keeps, prepend_known}
 use Rattle.std.specs.Prelude.{◌≡◌, ℕ, ◌<◌, Bool, true, false, List, [], ◌++◌, length, take, ⊤, None, Ok, Err, Option, Result}
 use Rattle.sim_talk.specs.declared.{fault.HearFault.HearFault, fault.TalkFault.TalkFault}
+use Rattle.sim_store.specs.declared.sink.Sink.{Ghosts}
 use Rattle.sim_talk.specs.declared.fault.HearFault.TheVariants as fault
 use Rattle.sim_talk.specs.declared.fault.TalkFault.TheVariants as ends
 
@@ -66,6 +67,11 @@ WriteCounts (Err (ends.Unheard cause)) old new = new ≡ old
 WriteCounts (Err ends.Untold) old new = new ≡ raised 1 old
 WriteCounts (Err ends.OutOfMemory) old new = ⊥
 
+-- both, where it is told by a history
+pub record CountsFaults {A : Type 0} (result : Result A TalkFault) (old new : History) : Type 0 where
+  pub read : HearCounts result old.unread new.unread
+  pub written : WriteCounts result old.unwritten new.unwritten
+
 -- ---- what is told, by what was kept and written before and after
 
 -- of what was kept and of the text behind it a beginning was written and the rest is kept; or writing failed, and the rest is lost
@@ -82,6 +88,16 @@ SettlesOut (Err failed) kept old new = (part : ℕ) × Appends old new (take par
 abbrev pub TellCounts : Result ⊤ Failed → ℕ → ℕ → Type 0
 TellCounts (Ok done) old new = new ≡ old
 TellCounts (Err failed) old new = new ≡ raised 1 old
+
+-- A text was told over a sink: what is kept and written of it, and that a failed write is counted. The record says what the sink means.
+pub record TellsTo {K : Type 0} (sink : Ghosts K) (result : Result ⊤ Failed) (text kept kept' : List ℕ) (old new : K) : Type 0 where
+  pub told : TellsOut result text kept kept' (sink.told old) (sink.told new)
+  pub faults : TellCounts result (sink.faults old) (sink.faults new)
+
+-- the same of what was kept and is to be written
+pub record SettlesTo {K : Type 0} (sink : Ghosts K) (result : Result ⊤ Failed) (kept : List ℕ) (old new : K) : Type 0 where
+  pub told : SettlesOut result kept (sink.told old) (sink.told new)
+  pub faults : TellCounts result (sink.faults old) (sink.faults new)
 
 -- ---- what a line in words may be refused for
 

@@ -1,7 +1,7 @@
 //! Texts that were told and not written yet. They are kept while more is to be answered, and written in one piece, since a call of the
 //! system costs more than a short answer. They stand apart from the sink, so that what is written of them is said over lists alone.
 
-ghost use Rattle.sim_talk.specs.LineTalk.{SettlesOut, TellCounts, TellsOut};
+ghost use Rattle.sim_talk.specs.LineTalk.{SettlesTo, TellsTo};
 ghost use Rattle.std.specs.Prelude.{◌≡◌, ◌+◌, ◌≤◌, ◌↔◌, [], ◌++◌, length, IsTrue, IfOk, vec_capacity};
 
 use sim_store::{Failed, Sink, write_out};
@@ -31,8 +31,7 @@ impl Kept {
     /// Tells a text: it is kept where there is room. Where there is none what is kept is written first, and a text that is longer than
     /// the room at once. It takes no memory. Where writing fails nothing is kept.
     pub fn tell<K: Sink>(&mut self, sink: &mut K, text: &[u8]) -> Result<(), Failed>
-        ensures told { TellsOut result text.now (bytes_kept self.old) (bytes_kept self.new) (K.told sink.old) (K.told sink.new) }
-        ensures faults { TellCounts result (K.faults sink.old) (K.faults sink.new) }
+        ensures { TellsTo K.Sink result text.now (bytes_kept self.old) (bytes_kept self.new) sink.old sink.new }
     {
         if self.has_room(text) {
             self.add(text);
@@ -44,9 +43,8 @@ impl Kept {
 
     /// Writes all that is kept, or a beginning of it where that fails. Nothing is kept then.
     pub fn settle<K: Sink>(&mut self, sink: &mut K) -> Result<(), Failed>
-        ensures told { SettlesOut result (bytes_kept self.old) (K.told sink.old) (K.told sink.new) }
+        ensures settles { SettlesTo K.Sink result (bytes_kept self.old) sink.old sink.new }
         ensures kept { bytes_kept self.new ≡ [] }
-        ensures faults { TellCounts result (K.faults sink.old) (K.faults sink.new) }
     {
         let settled = write_whole(sink, &self.bytes);
         self.bytes.clear();
@@ -56,8 +54,7 @@ impl Kept {
     // Keeps a text where nothing is kept, or writes it where there is no room for it.
     fn tell_alone<K: Sink>(&mut self, sink: &mut K, text: &[u8]) -> Result<(), Failed>
         requires { bytes_kept self.old ≡ [] }
-        ensures told { TellsOut result text.now [] (bytes_kept self.new) (K.told sink.old) (K.told sink.new) }
-        ensures faults { TellCounts result (K.faults sink.old) (K.faults sink.new) }
+        ensures { TellsTo K.Sink result text.now [] (bytes_kept self.new) sink.old sink.new }
     {
         if self.has_room(text) {
             self.add(text);
@@ -83,8 +80,7 @@ impl Kept {
 
 // Writes all the bytes, or a beginning of them.
 fn write_whole<K: Sink>(sink: &mut K, bytes: &[u8]) -> Result<(), Failed>
-    ensures told { SettlesOut result bytes.now (K.told sink.old) (K.told sink.new) }
-    ensures faults { TellCounts result (K.faults sink.old) (K.faults sink.new) }
+    ensures { SettlesTo K.Sink result bytes.now sink.old sink.new }
 {
     match write_out(sink, bytes) {
         Ok(()) => Ok(()),

@@ -3,8 +3,8 @@
 //! sink know nothing of each other, so it tells no order of what passed, but the bytes of both, where they tell them.
 
 ghost use Rattle.std.specs.Prelude.{◌≡◌, ◌⊎◌, [], IfOk, OnOk};
-ghost use Rattle.sim_talk.specs.LineTalk.{Comes, Ends, HearCounts, IsText, piped, Readies, SettlesOut, TakesOf, TellCounts, TellsOut, WriteCounts};
-ghost use Rattle.sim_talk.specs.{Talks.Hears, Talks.Settles, Talks.Tells};
+ghost use Rattle.sim_talk.specs.LineTalk.{Comes, Ends, HearCounts, IsText, piped, Readies, SettlesTo, TakesOf, TellCounts, TellsTo, WriteCounts};
+ghost use Rattle.sim_talk.specs.{Halves.KeepsInput, Halves.KeepsOutput, Talks.Hears, Talks.Settles, Talks.Tells};
 ghost use Rattle.{sim_store.specs.Sink.SinkCounts, sim_talk.specs.Lines.HearsOf, sim_talk.specs.Lines.IsWithinLine, sim_talk.specs.Lines.ReadCounts};
 
 use crate::ahead::{Ahead, PIECE, Poured};
@@ -69,9 +69,7 @@ impl<S: Source + Drop, K: Sink + Drop> LineTalk<S, K> {
             (piped (bytes_ahead self.new.ahead) (S.left self.new.source) (K.told self.new.sink) (bytes_kept self.new.kept) self.new.most
             (S.faults self.new.source) (K.faults self.new.sink)) }
         ensures faults { TellCounts result (K.faults self.old.sink) (K.faults self.new.sink) }
-        ensures source { self.new.source ≡ self.old.source }
-        ensures ahead { self.new.ahead ≡ self.old.ahead }
-        ensures most { self.new.most ≡ self.old.most }
+        ensures input { KeepsInput self.old self.new }
     {
         if self.ahead.has_end() {
             return Ok(());
@@ -87,9 +85,7 @@ impl<S: Source + Drop, K: Sink + Drop> LineTalk<S, K> {
             (prepend_known (bytes_ahead self.new.ahead) (S.left self.new.source)) }
         ensures order { (self.new.source ≡ self.old.source) ⊎ (bytes_kept self.old.kept ≡ []) }
         ensures faults { ReadCounts result (S.faults self.old.source) (S.faults self.new.source) }
-        ensures sink { self.new.sink ≡ self.old.sink }
-        ensures kept { self.new.kept ≡ self.old.kept }
-        ensures most { self.new.most ≡ self.old.most }
+        ensures output { KeepsOutput self.old self.new }
     {
         line.clear();
         'pieces: loop {
@@ -109,9 +105,7 @@ impl<S: Source + Drop, K: Sink + Drop> LineTalk<S, K> {
         requires { bytes_kept self.old.kept ≡ [] }
         ensures comes { Comes result (S.left self.old.source) (S.left self.new.source) (bytes_ahead self.old.ahead) (bytes_ahead self.new.ahead) }
         ensures counts { SinkCounts result (S.faults self.old.source) (S.faults self.new.source) }
-        ensures sink { self.new.sink ≡ self.old.sink }
-        ensures kept { self.new.kept ≡ self.old.kept }
-        ensures most { self.new.most ≡ self.old.most }
+        ensures output { KeepsOutput self.old self.new }
     {
         let mut piece = [0; PIECE];
         let count = self.source.read(&mut piece)?;
@@ -172,11 +166,8 @@ impl<S: Source + Drop, K: Sink + Drop> Talk for LineTalk<S, K> {
             (S.faults self.old.source) (K.faults self.old.sink))
             (piped (bytes_ahead self.new.ahead) (S.left self.new.source) (K.told self.new.sink) (bytes_kept self.new.kept) self.new.most
             (S.faults self.new.source) (K.faults self.new.sink)) }
-        ensures told { TellsOut result text.now (bytes_kept self.old.kept) (bytes_kept self.new.kept) (K.told self.old.sink) (K.told self.new.sink) }
-        ensures faults { TellCounts result (K.faults self.old.sink) (K.faults self.new.sink) }
-        ensures source { self.new.source ≡ self.old.source }
-        ensures ahead { self.new.ahead ≡ self.old.ahead }
-        ensures most { self.new.most ≡ self.old.most }
+        ensures told { TellsTo K.Sink result text.now (bytes_kept self.old.kept) (bytes_kept self.new.kept) self.old.sink self.new.sink }
+        ensures input { KeepsInput self.old self.new }
     {
         self.kept.tell(&mut self.sink, text)
     }
@@ -188,12 +179,9 @@ impl<S: Source + Drop, K: Sink + Drop> Talk for LineTalk<S, K> {
             (S.faults self.old.source) (K.faults self.old.sink))
             (piped (bytes_ahead self.new.ahead) (S.left self.new.source) (K.told self.new.sink) (bytes_kept self.new.kept) self.new.most
             (S.faults self.new.source) (K.faults self.new.sink)) }
-        ensures told { SettlesOut result (bytes_kept self.old.kept) (K.told self.old.sink) (K.told self.new.sink) }
+        ensures settles { SettlesTo K.Sink result (bytes_kept self.old.kept) self.old.sink self.new.sink }
         ensures kept { bytes_kept self.new.kept ≡ [] }
-        ensures faults { TellCounts result (K.faults self.old.sink) (K.faults self.new.sink) }
-        ensures source { self.new.source ≡ self.old.source }
-        ensures ahead { self.new.ahead ≡ self.old.ahead }
-        ensures most { self.new.most ≡ self.old.most }
+        ensures input { KeepsInput self.old self.new }
     {
         self.kept.settle(&mut self.sink)
     }

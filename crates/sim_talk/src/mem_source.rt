@@ -1,7 +1,7 @@
 //! An input in memory. Whoever wants to talk to the program without a terminal, tests above all, hands it in: its bytes come in
 //! pieces of any size, and its list of calls makes any read fail.
 
-ghost use Rattle.{sim_store.specs.Counts.raised, sim_store.specs.Sink.SinkCounts, std.specs.Io.ReadsAtMost, std.specs.Io.KnownBytes.ReadConsumes};
+ghost use Rattle.sim_store.specs.{Counts.raised, Pieces.Moves, Sink.SinkCounts};
 ghost use Rattle.std.specs.Prelude.{◌≡◌, ◌≤◌, min, ◌↔◌, [], ◌∷◌, ◌++◌, length, IfOk, OnOk, OnErr, IsOk, IsFalse, Some, vec_len};
 
 use crate::source::Source;
@@ -68,8 +68,7 @@ impl Source for MemSource {
         ensures calls { calls_of self.new ≡ raised 1 (calls_of self.old) }
         ensures failing { failing_of self.new ≡ failing_of self.old }
         ensures most { most_in self.new ≡ most_in self.old }
-        ensures bound { ReadsAtMost result into.new }
-        ensures bytes { ReadConsumes (Some (bytes_to_come self.old)) (Some (bytes_to_come self.new)) result into.new }
+        ensures moves { Moves result into.new (Some (bytes_to_come self.old)) (Some (bytes_to_come self.new)) }
         ensures counts { SinkCounts result (faults_in self.old) (faults_in self.new) }
     {
         if self.calls.count() {

@@ -1,7 +1,7 @@
 //! A talk with somebody at a terminal: he is asked for each line by a prompt, may type words in place of JSON, and is helped. It tells no
 //! history but what failed, since what he types is not what is heard.
 
-ghost use Rattle.sim_talk.specs.{LineTalk.HearCounts, LineTalk.LacksMemory, LineTalk.WriteCounts, Talks.untold};
+ghost use Rattle.sim_talk.specs.{LineTalk.CountsFaults, LineTalk.LacksMemory, Talks.untold};
 
 use crate::{HearFault, Talk, TalkFault, json_of};
 use sim_store::Failed;
@@ -23,8 +23,7 @@ impl<T: Talk + Drop> PromptTalk<T> {
 
     // Tells him a text.
     fn say(&mut self, text: &[u8]) -> Result<(), TalkFault>
-        ensures read { HearCounts result (T.history self.old.talk).unread (T.history self.new.talk).unread }
-        ensures written { WriteCounts result (T.history self.old.talk).unwritten (T.history self.new.talk).unwritten }
+        ensures { CountsFaults result (T.history self.old.talk) (T.history self.new.talk) }
     {
         self.talk.tell(text)?;
         Ok(())
@@ -32,8 +31,7 @@ impl<T: Talk + Drop> PromptTalk<T> {
 
     // Asks for a line.
     fn ask(&mut self, line: &mut Vec<u8>) -> Result<bool, TalkFault>
-        ensures read { HearCounts result (T.history self.old.talk).unread (T.history self.new.talk).unread }
-        ensures written { WriteCounts result (T.history self.old.talk).unwritten (T.history self.new.talk).unwritten }
+        ensures { CountsFaults result (T.history self.old.talk) (T.history self.new.talk) }
     {
         self.say(b"> ")?;
         self.talk.hear(line)
@@ -41,8 +39,7 @@ impl<T: Talk + Drop> PromptTalk<T> {
 
     // Asks once: whether there is a line or it is the end, or none where he typed nothing or is helped.
     fn ask_once(&mut self, line: &mut Vec<u8>) -> Result<Option<bool>, TalkFault>
-        ensures read { HearCounts result (T.history self.old.talk).unread (T.history self.new.talk).unread }
-        ensures written { WriteCounts result (T.history self.old.talk).unwritten (T.history self.new.talk).unwritten }
+        ensures { CountsFaults result (T.history self.old.talk) (T.history self.new.talk) }
     {
         if !self.ask(line)? {
             self.say(b"\n")?;

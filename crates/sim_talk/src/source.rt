@@ -1,8 +1,8 @@
 //! The trait of an input: bytes come from it, in pieces as they are there. It is a trait so that a talk is proved for every input
 //! that keeps these promises, be it standard input or a list of bytes.
 
-ghost use Rattle.std.specs.{Io.ReadsAtMost, Io.KnownBytes.ReadConsumes, Prelude.ℕ, Prelude.List, Prelude.Option};
-ghost use Rattle.sim_store.specs.Sink.{SinkCounts};
+ghost use Rattle.std.specs.Prelude.{ℕ, List, Option};
+ghost use Rattle.sim_store.specs.{Pieces.Moves, Sink.SinkCounts};
 
 use sim_store::Failed;
 
@@ -16,7 +16,6 @@ pub trait Source {
 
     /// Moves the next bytes to the buffer's start, and answers how many. Where the buffer has room, 0 is the end.
     fn read(&mut self, into: &mut [u8]) -> Result<usize, Failed>
-        ensures bound { ReadsAtMost result into.new }
-        ensures bytes { ReadConsumes (left self.old) (left self.new) result into.new }
+        ensures moves { Moves result into.new (left self.old) (left self.new) }
         ensures counts { SinkCounts result (faults self.old) (faults self.new) };
 }

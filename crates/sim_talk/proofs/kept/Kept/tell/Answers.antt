@@ -1,5 +1,11 @@
 -- All that was kept is written, and then the text is told.
-use Rattle.sim_talk.proofs.Keeping.{told_behind}
+use Rattle.sim_talk.{proofs.Keeping.told_behind, specs.LineTalk.TellCounts}
+use Rattle.std.proofs.Common.{ℕ, subst}
 
-pub returns-clause-told : Rattle.sim_talk.proofs.kept.Kept.tell.Goals.returns-clause-told
-returns-clause-told g c = told_behind c.tell_alone.result _ _ _ _ _ _ _ c.in_ok-settle.ensures.told c.tell_alone.ensures.told
+pub returns : Rattle.sim_talk.proofs.kept.Kept.tell.Goals.returns
+returns g c =
+    let settled = c.in_ok-settle.ensures.settles in
+    record {
+      told = told_behind c.tell_alone.result _ _ _ _ _ _ _ settled.told c.tell_alone.ensures.told;
+      faults = subst (λ (n : ℕ). TellCounts c.tell_alone.result n (g.K.Sink.faults c.tell_alone.new.sink)) settled.faults c.tell_alone.ensures.faults;
+    }

@@ -62,12 +62,12 @@ pieces-preserved g c =
     subst (λ p. Pours p c.pieces.self.most (bytes_ahead c.pieces.self.ahead) c.pieces.line.items (bytes_ahead c.pour.new.self) c.pour.new.line.items)
     c.in-Open.is c.in_ok-pour.ensures.ok in
     record {
-      part = subst (λ m. IsPart m c.pour.new.line.items) (sym c.in_ok-read_piece.ensures.most) (open_part c.pieces.self.most _ _ _ _ was.part goes_on);
+      part = subst (λ m. IsPart m c.pour.new.line.items) (sym c.in_ok-read_piece.ensures.output.most) (open_part c.pieces.self.most _ _ _ _ was.part goes_on);
       taken = taken_on c.pieces.self.most _ _ _ _ _ _ _ (bytes_ahead c.read_piece.new.self.ahead) _ was.taken goes_on c.in_ok-read_piece.ensures.comes.0 refl;
       faults = c.in_ok-read_piece.ensures.counts ∙ was.faults;
       order = inr (was.ready goes_on.within);
       ready = λ within. was.ready goes_on.within;
-      sink = c.in_ok-read_piece.ensures.sink ∙ was.sink;
-      kept = c.in_ok-read_piece.ensures.kept ∙ was.kept;
-      most = c.in_ok-read_piece.ensures.most ∙ was.most;
+      sink = c.in_ok-read_piece.ensures.output.sink ∙ was.sink;
+      kept = c.in_ok-read_piece.ensures.output.kept ∙ was.kept;
+      most = c.in_ok-read_piece.ensures.output.most ∙ was.most;
     }

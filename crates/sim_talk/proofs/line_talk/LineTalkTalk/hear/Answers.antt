@@ -18,17 +18,17 @@ returns-in_err-read_line-clause-passed g c =
     let after : History = piped (bytes_ahead new.ahead) (g.S.Source.left new.source) (g.K.Sink.told new.sink) (bytes_kept new.kept) new.most
     (g.S.Source.faults new.source) (g.K.Sink.faults new.sink) in
     let says : Says [] before after = says_on [] before between after c.in_ok-make_ready.ensures.passed.written
-    (ap g.K.Sink.told c.in_err-read_line.ensures.sink) (ap bytes_kept c.in_err-read_line.ensures.kept) in
+    (ap g.K.Sink.told c.in_err-read_line.ensures.output.sink) (ap bytes_kept c.in_err-read_line.ensures.output.kept) in
     let taken : MissesOf old.most c.in_err-read_line.field-0.0 before.coming after.coming =
-    subst (λ n. MissesOf n c.in_err-read_line.field-0.0 before.coming after.coming) c.in_ok-make_ready.ensures.most
+    subst (λ n. MissesOf n c.in_err-read_line.field-0.0 before.coming after.coming) c.in_ok-make_ready.ensures.input.most
     (subst (λ a. MissesOf mid.most c.in_err-read_line.field-0.0 (prepend_known (bytes_ahead a) (g.S.Source.left old.source)) after.coming)
-    c.in_ok-make_ready.ensures.ahead
+    c.in_ok-make_ready.ensures.input.ahead
     (subst (λ s. MissesOf mid.most c.in_err-read_line.field-0.0 (prepend_known (bytes_ahead mid.ahead) (g.S.Source.left s)) after.coming)
-    c.in_ok-make_ready.ensures.source c.in_err-read_line.ensures.taken)) in
+    c.in_ok-make_ready.ensures.input.source c.in_err-read_line.ensures.taken)) in
     let counted : ReadCounts (Err c.in_err-read_line.field-0.0) before.unread after.unread =
-    subst (λ s. ReadCounts (Err c.in_err-read_line.field-0.0) (g.S.Source.faults s) after.unread) c.in_ok-make_ready.ensures.source
+    subst (λ s. ReadCounts (Err c.in_err-read_line.field-0.0) (g.S.Source.faults s) after.unread) c.in_ok-make_ready.ensures.input.source
     c.in_err-read_line.ensures.faults in
-    let unfailed : after.unwritten ≡ before.unwritten = ap g.K.Sink.faults c.in_err-read_line.ensures.sink ∙ c.in_ok-make_ready.ensures.faults in
+    let unfailed : after.unwritten ≡ before.unwritten = ap g.K.Sink.faults c.in_err-read_line.ensures.output.sink ∙ c.in_ok-make_ready.ensures.faults in
     subst (λ r. Hears r c.read_line.new.line.items before after) (sym is)
     (misses_piped old.most c.in_err-read_line.field-0.0 before.coming after.coming before.written after.written before.kept after.kept after.longest
     before.unread after.unread before.unwritten after.unwritten taken says counted unfailed)

@@ -4,8 +4,8 @@ use Rattle.std.{proofs.lemmas.List.length-take-le, specs.Prelude.min}
 use Rattle.std.proofs.Common.{◌≡◌, ℕ, ◌-◌, ◌≤◌, List, length, take, drop, ap, arith, rules, subst, ◌∙◌}
 use Rattle.sim_talk.proofs.Reading.{drop-read, nothing_left, slice_from}
 
-pub returns-clause-bytes : Rattle.sim_talk.proofs.mem_source.MemSourceSource.read.Goals.returns-clause-bytes
-returns-clause-bytes c =
+pub returns-clause-moves : Rattle.sim_talk.proofs.mem_source.MemSourceSource.read.Goals.returns-clause-moves
+returns-clause-moves c =
     let bytes = c.args.self.now.bytes.items in
     let into = c.args.into.now in
     let at = c.args.self.now.at in
@@ -18,7 +18,11 @@ returns-clause-bytes c =
     let fits' : count ≤ length (drop at bytes) = subst (λ (l : List ℕ). count ≤ length l) left fits in
     let copied : front ≡ take count (drop at bytes) = c.copy_from_slice.ensures.after ∙ ap (λ (l : List ℕ). take count l) left in
     let is : count ≡ min (min (length (take (length c.deref.result.now - at) (drop at c.deref.result.now))) most) (length into) = omega arith in
-    let long : length front ≡ count = ap length copied ∙ length-take-le count (drop at bytes) fits' in (
-      drop-read bytes into front at count fits' copied,
-      nothing_left bytes into front at most count (subst (λ (l : List ℕ). count ≡ min (min (length l) most) (length into)) left is) c.args.self.now.some long,
-    )
+    let long : length front ≡ count = ap length copied ∙ length-take-le count (drop at bytes) fits' in
+    record {
+      bound = search rules;
+      bytes = (
+        drop-read bytes into front at count fits' copied,
+        nothing_left bytes into front at most count (subst (λ (l : List ℕ). count ≡ min (min (length l) most) (length into)) left is) c.args.self.now.some long,
+      );
+    }

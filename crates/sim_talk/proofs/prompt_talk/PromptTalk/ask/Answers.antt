@@ -3,12 +3,10 @@ use Rattle.sim_talk.{proofs.Prompting.heard_read, proofs.Prompting.heard_wrote, 
 use Rattle.std.proofs.Common.{ℕ, subst}
 use Rattle.sim_talk.proofs.prompt_talk.PromptTalk.ask.Goals as goal
 
-pub returns-clause-read : goal.returns-clause-read
-returns-clause-read g c =
-    subst (λ (n : ℕ). HearCounts c.hear.result n (g.T.Talk.history c.hear.new.self).unread) c.in_ok-say.ensures.read
-    (heard_read c.hear.result _ _ _ c.hear.ensures)
-
-pub returns-clause-written : goal.returns-clause-written
-returns-clause-written g c =
-    subst (λ (n : ℕ). WriteCounts c.hear.result n (g.T.Talk.history c.hear.new.self).unwritten) c.in_ok-say.ensures.written
-    (heard_wrote c.hear.result _ _ _ c.hear.ensures)
+pub returns : goal.returns
+returns g c = record {
+  read = subst (λ (n : ℕ). HearCounts c.hear.result n (g.T.Talk.history c.hear.new.self).unread) c.in_ok-say.ensures.read
+      (heard_read c.hear.result _ _ _ c.hear.ensures);
+  written = subst (λ (n : ℕ). WriteCounts c.hear.result n (g.T.Talk.history c.hear.new.self).unwritten) c.in_ok-say.ensures.written
+      (heard_wrote c.hear.result _ _ _ c.hear.ensures);
+}
