@@ -1,9 +1,9 @@
 -- A message as it is read from bytes. The length in front is passed over, and so is what follows a message of fixed length: whether
 -- the bytes are just the frame of what was read is seen when it is framed again.
-use Rattle.std.specs.Prelude.{◌≡◌, ℕ, zero, suc, List, [], ◌∷◌, length, take, drop, if◌then◌else◌, nat_lt, ◌==◌, Some, None, Ok, Err, Option, Result}
+use Rattle.std.specs.Prelude.{◌≡◌, ℕ, Bool, true, zero, suc, List, [], ◌∷◌, length, take, drop, if◌then◌else◌, nat_lt, ◌==◌, IfOk, Some, None, Ok, Err, Option, Result}
 use Rattle.sim_bytes.specs.Reading.{◌>>=◌}
-use Rattle.sim_wire.specs.{Fits.state_limit, declared.fault.WireFault.WireFault}
-use Rattle.sim_wire.specs.Common.{Attack, byte_at, Command, Delete, DownOf, number_at, Place, point_at, Reader, Resign, Stop, Train, UpOf, w16, w32, Walk}
+use Rattle.{sim_bytes.specs.declared.take.Short.Short, sim_wire.specs.Fits.state_limit, sim_wire.specs.declared.fault.WireFault.WireFault}
+use Rattle.sim_wire.specs.Common.{Attack, byte_at, Command, Delete, DownOf, number_at, Place, point_at, Reader, Reads, Resign, Stop, Train, UpOf, w16, w32, Walk}
 use Rattle.sim_plain.specs.declared.message.DownOf.TheVariants as down
 use Rattle.sim_plain.specs.declared.message.UpOf.TheVariants as up
 use Rattle.sim_wire.specs.declared.fault.WireFault.TheVariants as faults
@@ -152,3 +152,15 @@ Fails read faults.OutOfMemory = Unit {0}
 abbrev pub Gives : {X : Type 0} → Reader X → List ℕ → Result X WireFault → List ℕ → Type 0
 Gives read old (Ok x) new = read old ≡ Some (x, new)
 Gives read old (Err e) new = Fails (read old) e
+
+-- A call gave what `read` says, which is small enough to be framed, and wants memory only where the bytes ask for some.
+pub record Takes {X : Type 0} (read : Reader X) (IsSmall : X → Type 0) (asks : List ℕ → Bool) (old : List ℕ) (result : Result X WireFault)
+    (new : List ℕ) : Type 0 where
+  pub gives : Gives read old result new
+  pub small : IfOk result IsSmall
+  pub memory : result ≡ Err faults.OutOfMemory → asks old ≡ true
+
+-- the same of what never takes memory, and is not read only where bytes are wanting
+pub record TakesLight {X : Type 0} (read : Reader X) (IsSmall : X → Type 0) (old : List ℕ) (result : Result X Short) (new : List ℕ) : Type 0 where
+  pub reads : Reads read old result new
+  pub small : IfOk result IsSmall
