@@ -4,7 +4,8 @@
 //! since. It stands on `sim_board`, which makes a change and tells the systems of it, and on the planners of `sim_orders`,
 //! `sim_motion` and `sim_attack`.
 //!
-//! - `steps`: one command, and one phase.
+//! - `obeying`: one command.
+//! - `phase`: one phase.
 //! - `rest`: whether anybody can act.
 //! - `turns`: a turn with its commands.
 //! - `due`: the commands of a match file that are given in a turn.
@@ -12,12 +13,13 @@
 #![tactic(auto)]
 
 mod due;
+mod obeying;
+mod phase;
 mod playing;
 mod rest;
-mod steps;
 mod turns;
 
 pub use due::due_at;
+pub use obeying::obey;
 pub use playing::play;
-pub use steps::obey;
 pub use turns::{run_phases, turn};

@@ -1,9 +1,9 @@
 //! Turns with the match's own commands.
 
-ghost use Rattle.std.specs.Prelude.{◌≡◌, ◌-◌, ◌<◌, ◌≤◌, map, OnOk, fold, All};
-ghost use Rattle.sim_base.specs.{Commands.commanded, Turn.from, Turn.own_turns, Validity.IsValid, declared.setup.Timed.Timed as AnyTimed};
-ghost use Rattle.sim_board.specs.BoardWords.{AreKept, IsWhole, setup_in, state_in, systems};
-ghost use Rattle.sim_laws.specs.CommandLaws.{IsOrderOf};
+ghost use Rattle.std.specs.Prelude.{◌-◌, map, fold};
+ghost use Rattle.sim_base.specs.{Commands.commanded, Turn.from, Turn.own_turns, declared.setup.Timed.Timed as AnyTimed};
+ghost use Rattle.sim_board.specs.BoardWords.{setup_in, state_in};
+ghost use Rattle.sim_turn.specs.Turns.{GoesOnTo, MayObeyAll, MayPlayUntil, PlaysTo};
 
 use crate::{due_at, obey, run_phases};
 use sim_base::{OutOfMemory, Timed};
@@ -20,16 +20,9 @@ pub fn play(
     orders: &OrderTable,
     until: u32,
 ) -> Result<(), OutOfMemory>
-    requires whole { IsWhole board.old ⟦<dyn System as System>⟧ }
-    requires valid { IsValid (setup_in board.old) (state_in board.old) }
-    requires ahead { (state_in board.old).turn ≤ until }
-    requires within { until ≤ (setup_in board.old).turns }
-    ensures state { OnOk result (state_in board.new ≡ from (setup_in board.old) (state_in board.old)
-        (own_turns (setup_in board.old) (state_in board.old).turn (until - (state_in board.old).turn))) }
-    ensures valid { OnOk result (IsValid (setup_in board.old) (state_in board.new)) }
-    ensures whole { OnOk result (IsWhole board.new ⟦<dyn System as System>⟧) }
-    ensures kept { AreKept (systems board.old ⟦<dyn System as System>⟧) (systems board.new ⟦<dyn System as System>⟧) }
-    ensures setup { setup_in board.new ≡ setup_in board.old }
+    requires { MayPlayUntil board.old until ⟦<dyn System as System>⟧ }
+    ensures { PlaysTo result (from (setup_in board.old) (state_in board.old)
+        (own_turns (setup_in board.old) (state_in board.old).turn (until - (state_in board.old).turn))) board.old board.new ⟦<dyn System as System>⟧ }
 {
     let setup = board.setup();
     let commands = setup.commands.as_slice();
@@ -48,13 +41,9 @@ fn obey_due(
     orders: &OrderTable,
     due: &[Timed],
 ) -> Result<(), OutOfMemory>
-    requires whole { IsWhole board.old ⟦<dyn System as System>⟧ }
-    requires players { All (IsOrderOf (setup_in board.old)) (map (λ (timed : AnyTimed). timed.order) due.now) }
-    ensures state { OnOk result (state_in board.new ≡ fold (commanded (setup_in board.old)) (state_in board.old)
-        (map (λ (timed : AnyTimed). timed.order) due.now)) }
-    ensures whole { OnOk result (IsWhole board.new ⟦<dyn System as System>⟧) }
-    ensures kept { AreKept (systems board.old ⟦<dyn System as System>⟧) (systems board.new ⟦<dyn System as System>⟧) }
-    ensures setup { setup_in board.new ≡ setup_in board.old }
+    requires { MayObeyAll board.old (map (λ (timed : AnyTimed). timed.order) due.now) ⟦<dyn System as System>⟧ }
+    ensures { GoesOnTo result (fold (commanded (setup_in board.old)) (state_in board.old) (map (λ (timed : AnyTimed). timed.order) due.now))
+        board.old board.new ⟦<dyn System as System>⟧ }
 {
     for timed in due {
         obey(alloc, board, orders, &timed.order)?;

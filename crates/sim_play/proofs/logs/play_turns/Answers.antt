@@ -1,7 +1,7 @@
 -- The first state has its digest; then one turn more is played, and its state has one too.
 use Rattle.sim_play.proofs.{LogTurns.digests_more, LogTurns.state_more, LogTurns.turn_at}
-use Rattle.sim_play.proofs.Common.{digest, IsValid, PlayerCommand, rig_in, Setup, setup_in, State, state_after, state_in, subst, systems_by, turn, ◌∙◌}
-use Rattle.sim_play.proofs.Common.{◌≡◌, ℕ, ◌+◌, ◌<◌, List, [], ◌∷◌, ◌++◌, length, take, refl, ap, arith, rules, sym}
+use Rattle.sim_play.proofs.Common.{digest, IsOrderOf, IsValid, PlayerCommand, rig_in, Setup, setup_in, State, state_after, state_in, subst, systems_by, turn, ◌∙◌}
+use Rattle.sim_play.proofs.Common.{◌≡◌, ℕ, ◌+◌, ◌<◌, List, [], ◌∷◌, ◌++◌, length, take, All, refl, ap, arith, rules, sym}
 use Rattle.sim_play.proofs.logs.play_turns.Goals as goal
 use Rattle.sim_board.proofs.Keeping.{kept_fed, kept_on}
 
@@ -24,15 +24,23 @@ loop-commands-init g c =
       kept = kept_fed setup start (systems_by (rig_in c.args.board.now) (λ i v. (goal.System-dyn g (i, v)).meaning v)) c.requires.begun.whole.standing.fed;
     }
 
-pub turn-requires-clause-below : goal.turn-requires-clause-below
-turn-requires-clause-below g c =
+pub turn-requires : goal.turn-requires
+turn-requires g c =
+    let setup = setup_in c.args.board.now in
     let turns = c.args.turns.now in
     let i = c.loop-commands.invariant in
     let n = c.loop-commands.commands-index in
     let lt : n < length turns = search rules in
-    let at = turn_at (setup_in c.args.board.now) turns n (state_in c.loop-commands.board) (omega (arith, lt)) i.state in
+    let at = turn_at setup turns n (state_in c.loop-commands.board) (omega (arith, lt)) i.state in
     let last = ap (λ (s : Setup). s.turns) i.same in
-    omega (arith, at, last, lt, c.requires.few)
+    let orders : List PlayerCommand = c.commands-item.result in
+    record {
+      whole = i.whole;
+      valid = subst (λ (s : Setup). IsValid s (state_in c.loop-commands.board)) (sym i.same) i.valid;
+      below = omega (arith, at, last, lt, c.requires.few);
+      players = subst (λ (s : Setup). All (IsOrderOf s) c.as_slice.result.now) (sym i.same)
+          (subst (All (IsOrderOf setup)) (sym (c.as_slice.ensures ∙ c.commands-item.is)) (c.requires.players n orders lt));
+    }
 
 pub loop-commands-preserved : goal.loop-commands-preserved
 loop-commands-preserved g c =

@@ -1,12 +1,14 @@
 -- The board was started.
-use Rattle.sim_play.proofs.{Common.arith, Playing.came, Starting.started_turn, Starting.started_until, Starting.started_valid}
+use Rattle.sim_play.proofs.{Common.ap, Common.arith, Common.Setup, Playing.came, Starting.started_turn, Starting.started_until, Starting.started_valid}
 use Rattle.sim_play.proofs.matches.start_until.Goals as goal
 
-pub play-requires-clause-valid : goal.play-requires-clause-valid
-play-requires-clause-valid g c = started_valid _ _ _ c.in_ok-start.ensures.setup c.in_ok-start.ensures.state c.requires.limits
-
-pub play-requires-clause-ahead : goal.play-requires-clause-ahead
-play-requires-clause-ahead g c = omega (arith, started_turn _ _ _ c.in_ok-start.ensures.setup c.in_ok-start.ensures.state)
+pub play-requires : goal.play-requires
+play-requires g c = record {
+  whole = c.in_ok-start.ensures.whole;
+  valid = started_valid _ _ _ c.in_ok-start.ensures.setup c.in_ok-start.ensures.state c.requires.limits;
+  ahead = omega (arith, started_turn _ _ _ c.in_ok-start.ensures.setup c.in_ok-start.ensures.state);
+  within = omega (arith, c.requires.within, ap (λ (s : Setup). s.turns) c.in_ok-start.ensures.setup);
+}
 
 pub returns-clause-ends : goal.returns-clause-ends
 returns-clause-ends g c =

@@ -4,24 +4,27 @@ use Rattle.sim_turn.proofs.Common.{setup_in, State, state_in, subst, sym, Timed,
 use Rattle.sim_turn.proofs.Common.{◌≡◌, ℕ, suc, ◌+◌, ◌-◌, ◌<◌, ◌≤◌, map, fold, All, ap, arith, commanded, from, IsOrderOf, IsValid, orders_at, own_turns, Setup}
 use Rattle.sim_turn.proofs.playing.play.Goals as goal
 
-pub obey_due-requires-clause-players : goal.obey_due-requires-clause-players
-obey_due-requires-clause-players g c =
+pub obey_due-requires : goal.obey_due-requires
+obey_due-requires g c =
     let setup = setup_in c.args.board.now in
     let n = c.loop-number.number in
     let due_is : map (λ (timed : Timed). timed.order) c.due_at.result.now ≡ orders_at (n + 1) setup.commands =
     c.due_at.ensures ∙ ap (orders_at (n + 1)) (c.as_slice-commands.ensures ∙ ap (λ (s : Setup). s.commands) c.setup-setup.ensures) in
-    subst (λ (s : Setup). All (IsOrderOf s) (map (λ (timed : Timed). timed.order) c.due_at.result.now)) (sym c.loop-number.invariant.same)
-    (subst (All (IsOrderOf setup)) (sym due_is) (players_at setup n c.requires.whole.standing.limits))
+    record {
+      whole = c.loop-number.invariant.whole;
+      players = subst (λ (s : Setup). All (IsOrderOf s) (map (λ (timed : Timed). timed.order) c.due_at.result.now)) (sym c.loop-number.invariant.same)
+          (subst (All (IsOrderOf setup)) (sym due_is) (players_at setup n c.requires.whole.standing.limits));
+    }
 
-pub run_phases-requires-clause-below : goal.run_phases-requires-clause-below
-run_phases-requires-clause-below g c =
+pub run_phases-requires : goal.run_phases-requires
+run_phases-requires g c =
     let i = c.loop-number.invariant in
     let at : (state_in c.obey_due.new.board).turn ≡ c.loop-number.number =
     ap (λ (s : State). s.turn) c.in_ok-obey_due.ensures.state ∙ orders_keep_turn (setup_in c.loop-number.board) (state_in c.loop-number.board)
     (map (λ (timed : Timed). timed.order) c.due_at.result.now) ∙ i.turn in
     let last : (setup_in c.obey_due.new.board).turns ≡ (setup_in c.args.board.now).turns =
     ap (λ (s : Setup). s.turns) (c.in_ok-obey_due.ensures.setup ∙ i.same) in
-    omega (arith, at, last, c.requires.within, c.loop-number-test.true)
+    record { whole = c.in_ok-obey_due.ensures.whole; below = omega (arith, at, last, c.requires.within, c.loop-number-test.true) }
 
 pub loop-number-preserved : goal.loop-number-preserved
 loop-number-preserved g c =
