@@ -17,7 +17,8 @@ pub use Rattle.std.specs.Prelude.{is_some, is_none, slice_get, FitsSigned, codes
 pub use Rattle.std.specs.declared.cmp.Ordering.{Ordering, TheVariants.Equal, TheVariants.Greater, TheVariants.Less}
 pub use Rattle.indexmap.specs.IndexSet.{insert_key}
 pub use Rattle.sim_base.specs.{NumberText.in_range, NumberText.number_of, NumberText.text_of, Numbers.is_raw, Numbers.product}
-pub use Rattle.sim_merge.specs.{Faults.IfBadOp, Faults.IfRefusal, Keeping.AreResolved, Keeping.AreWithin, Keeping.Has, Keeping.IsKept, Keeping.KeepsAll}
+pub use Rattle.sim_merge.specs.{Faults.IfBadOp, Faults.refusal_at}
+pub use Rattle.sim_merge.specs.{Faults.IfRefusal, Keeping.AreResolved, Keeping.AreWithin, Keeping.Has, Keeping.IsKept, Keeping.KeepsAll}
 pub use Rattle.sim_merge.specs.{Laying.there, Laying.with_laid, Laying.with_lower, Laying.with_value, Resolution.root_there, Resolution.roots_in}
 pub use Rattle.sim_merge.specs.{Operations.function_of, Operations.number_by, declared.fault.MergeFault.MergeFault, declared.fault.OverlayFault.OverlayFault}
 pub use Rattle.sim_merge.specs.Laying.{absent, before, behind, followed_by, laid, laid_under, Laying, lower_children, lower_value, over_children, refused}

@@ -1,7 +1,8 @@
 -- Trees that are kept while templates are resolved.
 use Rattle.sim_merge.proofs.FitLemmas.{IfNode, IfThere}
 use Rattle.sim_merge.proofs.Common.{AreWithin, arith, bare, chain_root, cons_option, filter_map-append, get_or-map, get_or-set_other, get_or-set_same, Has}
-use Rattle.sim_merge.proofs.Common.{IfRefusal, inherited, is_endless, is_layable, is_missing, is_resolved, IsKept, IsTreeOf, KeepsAll, laid, Laying, layings}
+use Rattle.sim_merge.proofs.Common.{IfBadOp, refusal_at}
+use Rattle.sim_merge.proofs.Common.{IfRefusal, inherited, is_endless, is_layable, is_missing, is_resolved, IsKept, IsTreeOf, KeepsAll, Laying, layings}
 use Rattle.sim_merge.proofs.Common.{Origin, origin_of, origins_of, OverlayFault, parent_among, parents_in, position-Some, range_with_len, refused, root_in}
 use Rattle.sim_merge.proofs.Common.{length-map, length-replicate, length-set, list_all, members, MergeFault, name_in, names_in, nat_tests, Node, node_of}
 use Rattle.sim_merge.proofs.Common.{root_refusal, root_there, roots_in, slice_get-get_or, Source, subst, sym, there, Tree, zero-add, ◌∙◌}
@@ -10,22 +11,20 @@ use Rattle.sim_merge.proofs.Common.{◌≡◌, ℕ, zero, suc, ◌+◌, ◌<◌,
 use Rattle.sim_merge.proofs.ResolutionLemmas.{members-first, members-parent, position-map, position-no_number, position-number}
 use Rattle.sim_merge.proofs.ResolvedLemmas.{chain_root-resolved, if-all, IsGood, there-resolved}
 use Rattle.sim_merge.specs.declared.fault.MergeFault.TheVariants as merge
+use Rattle.sim_merge.specs.declared.fault.OverlayFault.TheVariants as overlay
 use Rattle.{sim_base.proofs.Tests.left_true, sim_base.proofs.Tests.right_true, std.proofs.lemmas.Bool.and_from}
 
 -- ---- chains
 
-pub chain_root-first : (parents : List (Option ℕ)) (roots : List Node) (number : ℕ) (own : Node) → get_or parents number None ≡ None
-    → slice_get roots number ≡ Some own →
-    chain_root roots (members parents number) ≡ laid (Some bare) own
-chain_root-first parents roots number own first is =
-    ap (chain_root roots) (members-first parents number first) ∙ ap (inherited (there bare)) is
+pub chain_root-first : (parents : List (Option ℕ)) (roots : List Node) (number : ℕ) → get_or parents number None ≡ None →
+    chain_root roots (members parents number) ≡ inherited (there bare) (slice_get roots number)
+chain_root-first parents roots number first = ap (chain_root roots) (members-first parents number first)
 
-pub chain_root-parent : (parents : List (Option ℕ)) (roots : List Node) (number parent : ℕ) (lower own : Node) → is_endless (members parents number) ≡ false →
-    get_or parents number None ≡ Some parent → chain_root roots (members parents parent) ≡ there lower → slice_get roots number ≡ Some own →
-    chain_root roots (members parents number) ≡ laid (Some lower) own
-chain_root-parent parents roots number parent lower own ended next below is =
-    ap (chain_root roots) (members-parent parents number parent ended next)
-    ∙ ap (λ l. inherited l (slice_get roots number)) below ∙ ap (inherited (there lower)) is
+pub chain_root-parent : (parents : List (Option ℕ)) (roots : List Node) (number parent : ℕ) (lower : Node) → is_endless (members parents number) ≡ false →
+    get_or parents number None ≡ Some parent → chain_root roots (members parents parent) ≡ there lower →
+    chain_root roots (members parents number) ≡ inherited (there lower) (slice_get roots number)
+chain_root-parent parents roots number parent lower ended next below =
+    ap (chain_root roots) (members-parent parents number parent ended next) ∙ ap (λ l. inherited l (slice_get roots number)) below
 
 pub chain_root-refused : (parents : List (Option ℕ)) (roots : List Node) (number parent : ℕ) → is_endless (members parents number) ≡ false →
     get_or parents number None ≡ Some parent → chain_root roots (members parents parent) ≡ refused → chain_root roots (members parents number) ≡ refused
@@ -169,12 +168,11 @@ root_refusal-none parents roots kept is has =
     (position-map (λ n. chain_root roots (members parents n)) is_missing (range_with_len 0 (length parents))
     ∙ position-no_number (λ n. is_missing (chain_root roots (members parents n))) (length parents) (λ k h. is_missing-kept parents roots kept is k (has k h)))
 
-pub IfRefusal-weaker : (fault : MergeFault) (P Q : Type 0) → (P → Q) → IfRefusal fault P → IfRefusal fault Q
-IfRefusal-weaker (merge.NoParent index) P Q f p = f p
-IfRefusal-weaker (merge.Cycle index) P Q f p = f p
-IfRefusal-weaker (merge.ChainTooLong index) P Q f p = f p
-IfRefusal-weaker (merge.BadOp index) P Q f p = f p
-IfRefusal-weaker merge.OutOfMemory P Q f p = tt
+-- a template whose tree has a fault is the first one, where it is
+pub IfRefusal-refused : (fault : OverlayFault) (number : ℕ) (P : Type 0) (first : Option MergeFault) → (P → first ≡ Some (merge.BadOp number))
+    → IfBadOp fault P → IfRefusal (refusal_at number fault) (first ≡ Some (refusal_at number fault))
+IfRefusal-refused overlay.BadOp number P first f p = f p
+IfRefusal-refused overlay.OutOfMemory number P first f p = tt
 
 -- ---- parents are templates
 

@@ -2,7 +2,7 @@
 use Rattle.sim_merge.proofs.{ChildrenLemmas.with_lower-followed_by, Common.value_of, Common.value_over, Common.with_laid, Common.with_lower, Common.◌∙◌}
 use Rattle.sim_merge.proofs.Common.{followed_by, IfBadOp, IsPast, laid, laid_under, laid_unmarked, Laying, lower_children, lower_value, Node, node}
 use Rattle.sim_merge.proofs.Common.{node_of, nodes_of, out-Tree, over_children, OverlayFault, refused, roll-Tree, sym, there, Tree, Tree-F, under, Value}
-use Rattle.sim_merge.proofs.Common.{◌≡◌, ℕ, true, List, Some, None, Option, refl, ap, are_sound, before, behind, Child, child, child_named, Children}
+use Rattle.sim_merge.proofs.Common.{◌≡◌, ℕ, List, Some, None, Option, refl, ap, before, behind, Child, child, child_named, Children}
 use Rattle.sim_merge.proofs.NodeLemmas.{node_of-out, node_of-roll}
 use Rattle.sim_merge.specs.declared.fault.OverlayFault.TheVariants.{BadOp, OutOfMemory}
 

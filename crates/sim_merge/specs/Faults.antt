@@ -1,4 +1,5 @@
 -- What faults tell: a refusal tells a fact, and want of memory tells nothing.
+use Rattle.std.specs.Prelude.{ℕ}
 use Rattle.sim_merge.specs.declared.fault.{MergeFault.MergeFault, OverlayFault.OverlayFault}
 use Rattle.sim_merge.specs.declared.fault.MergeFault.TheVariants as merge
 use Rattle.sim_merge.specs.declared.fault.OverlayFault.TheVariants as overlay
@@ -15,3 +16,8 @@ IfRefusal (merge.Cycle index) fact = fact
 IfRefusal (merge.ChainTooLong index) fact = fact
 IfRefusal (merge.BadOp index) fact = fact
 IfRefusal merge.OutOfMemory fact = Unit {0}
+
+-- a template whose tree has this fault is refused by its number
+abbrev pub refusal_at : ℕ → OverlayFault → MergeFault
+refusal_at number overlay.BadOp = merge.BadOp number
+refusal_at number overlay.OutOfMemory = merge.OutOfMemory

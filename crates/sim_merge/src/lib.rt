@@ -10,11 +10,13 @@
 //! - `laying`: a tree laid over another one.
 //! - `laws`: the theorem that ties the two definitions of an overlay, as the contract of a function that does nothing.
 //! - `chains`: chains of parents.
+//! - `family`: templates beside their parents, and how each is resolved.
 //! - `resolve`: templates with all that they inherit.
 //! - `library`: the resolved templates by number.
 #![tactic(auto)]
 
 mod chains;
+mod family;
 mod fault;
 mod laws;
 mod laying;
