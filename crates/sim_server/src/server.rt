@@ -9,13 +9,13 @@ ghost use Rattle.sim_server.specs.Silence.{IsNoted, IsSilent, ReleasesNothing, S
 ghost use Rattle.sim_server.specs.Standing.{Answers, is_dropped, IsClient, IsLater, Makes, server_of, StandsFor};
 ghost use Rattle.sim_plain.specs.declared.message.UpOf.TheVariants as up;
 
+use crate::audience::Audience;
 use crate::faults::{
     command_fault_of, done_fault_of, entry_done_of, released_at_start, report_fault_of, takes,
 };
 use crate::kept::{Orders, keep, kept_of};
-use crate::posts::{
-    Posts, one, tell_all, tell_ask, tell_cut, tell_loading, tell_notice, tell_release,
-};
+use crate::past::Past;
+use crate::posts::{Posts, one, tell_ask};
 use crate::references::{is_other, note, reference_of};
 use crate::seats::{first_seats, is_outside, least_in_of, raised_of, reseat, seat_of, status_of};
 use sim_base::{Command, Items, OutOfMemory, PlayerCommand};
@@ -121,7 +121,12 @@ impl Server {
             turn,
             order: order.copy()?,
         };
-        let posts = tell_all(self.alloc, &self.seats, self.rules.clients, &down)?;
+        let audience = Audience {
+            alloc: self.alloc,
+            seats: &self.seats,
+            clients: self.rules.clients,
+        };
+        let posts = audience.tell_all(&down)?;
         keep(self.alloc, &mut self.kept, turn, order)?;
         Ok(posts)
     }
@@ -138,7 +143,12 @@ impl Server {
         let mut seats = self.seats;
         seats[from as usize] = Status::In { done: turn };
         let risen = raised_of(&seats, self.rules.clients, self.released);
-        let posts = tell_release(self.alloc, &seats, self.rules.clients, self.released, risen)?;
+        let audience = Audience {
+            alloc: self.alloc,
+            seats: &seats,
+            clients: self.rules.clients,
+        };
+        let posts = audience.tell_release(self.released, risen)?;
         self.seats = seats;
         self.released = risen;
         Ok(posts)
@@ -155,14 +165,12 @@ impl Server {
             return one(self.alloc, from, Down::Refused { code });
         }
         let reference = reference_of(&self.references, turn);
-        let posts = tell_notice(
-            self.alloc,
-            &self.seats,
-            self.rules.clients,
-            turn,
-            from,
-            is_other(reference, digest),
-        )?;
+        let audience = Audience {
+            alloc: self.alloc,
+            seats: &self.seats,
+            clients: self.rules.clients,
+        };
+        let posts = audience.tell_notice(turn, from, is_other(reference, digest))?;
         note(&mut self.references, turn, digest)?;
         Ok(posts)
     }
@@ -183,16 +191,13 @@ impl Server {
             return Ok(Items::new(self.alloc));
         }
         let done = entry_done_of(self.rules, self.released, turn);
-        let posts = tell_loading(
-            self.alloc,
-            client,
-            done,
-            bytes,
-            &self.kept,
-            turn,
-            self.rules.turns,
-            self.released,
-        )?;
+        let past = Past {
+            kept: &self.kept,
+            turns: self.rules.turns,
+            released: self.released,
+        };
+        let state = Down::State { done, bytes };
+        let posts = past.tell_loading(self.alloc, client, turn, state)?;
         self.seats[client as usize] = Status::In { done };
         Ok(posts)
     }
@@ -236,7 +241,12 @@ impl Server {
         let mut seats = self.seats;
         seats[client as usize] = Status::Out;
         let risen = raised_of(&seats, clients, self.released);
-        let posts = tell_cut(self.alloc, &seats, clients, self.released, risen, client)?;
+        let audience = Audience {
+            alloc: self.alloc,
+            seats: &seats,
+            clients,
+        };
+        let posts = audience.tell_cut(self.released, risen, client)?;
         let donor = least_in_of(&seats, clients);
         reseat(&mut seats, client, seat_of(donor));
         self.seats = seats;
