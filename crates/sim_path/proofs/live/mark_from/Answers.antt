@@ -8,8 +8,8 @@ mark-requires-clause-on c = λ v h. subst (λ (s : Size). IsOnGround s v) (sym c
 
 pub loop-which-preserved : goal.loop-which-preserved
 loop-which-preserved c =
-    let field = field_of_grid c.args.grid.now in
-    let start = c.args.start in
+    let field = field_of_grid c.args.question.now.grid.now in
+    let start = c.args.question.now.start in
     let number = number_in c.args.distances.now in
     let old = c.args.live.now in
     let first = c.args.list.now.items in
