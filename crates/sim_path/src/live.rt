@@ -5,7 +5,8 @@
 ghost use Rattle.{sim_base.specs.Steps.IsOnGround, sim_base.specs.declared.place.Cell.Cell, sim_path.specs.Questions.field_in};
 ghost use Rattle.std.specs.Prelude.{◌≡◌, ◌*◌, ◌<◌, true, false, IfOk, OnOk, Some, None, Contains};
 ghost use Rattle.sim_search.specs.Distances.{number_in, size_about};
-ghost use Rattle.sim_path.specs.{Floors.IsSlope, Floors.slope_of, MarkTables.IsNoneMarked, MarkTables.marked_in, MarkTables.size_of_marks, Stands.IsStand};
+ghost use Rattle.sim_path.specs.{Floors.IsSlope, Floors.slope_of, MarkTables.IsNoneMarked, MarkTables.marked_in, MarkTables.size_of_marks};
+ghost use Rattle.sim_path.specs.Stands.{IsStand, IsToldOf, LooksBack};
 ghost use Rattle.sim_path.specs.Live.{AreLive, AreLiveBut, is_dead, IsFall, IsSpread, IsSpreadFrom, twice};
 ghost use Rattle.sim_path.specs.Straight.{IsFirstTight, IsTightStep, IsTightTrail};
 
@@ -67,9 +68,8 @@ fn mark_from(
     list: &mut Vec<Cell>,
     cell: Cell,
 ) -> Result<(), OutOfMemory>
-    requires cell_on { IsOnGround question.now.grid.now.size cell }
+    requires cell { IsToldOf question.now.grid.now.size distances.now cell }
     requires marks { size_of_marks live.old ≡ question.now.grid.now.size }
-    requires size { size_about distances.now ≡ question.now.grid.now.size }
     requires on { (c : Cell) → Contains list.old.items c → IsOnGround question.now.grid.now.size c }
     ensures { OnOk result (IsSpreadFrom (field_in question.now) question.now.start (number_in distances.now) live.old live.new list.old.items
         list.new.items 8 cell) }
@@ -120,9 +120,7 @@ fn live_step(
     at: Stand,
     which: u8,
 ) -> Option<Cell>
-    requires which_in { which < 8 }
-    requires at { IsStand (field_in question.now) question.now.start (slope_of slope.now) at }
-    requires size { size_about slope.now.distances.now ≡ question.now.grid.now.size }
+    requires { LooksBack question.now slope.now at which }
     ensures none { result ≡ None → (p : Cell) → IsTightStep (field_in question.now) question.now.start (slope_of slope.now) at.spot.cell p which
         → is_dead live.now p ≡ true }
     ensures some { (p : Cell) → result ≡ Some p → IsTightStep (field_in question.now) question.now.start (slope_of slope.now) at.spot.cell p which }
@@ -138,8 +136,7 @@ fn live_step(
 
 // The first such cell in the order of the directions.
 fn first_live(question: &Question<'_>, slope: &Slope<'_>, live: &Marks, cell: Cell) -> Option<Cell>
-    requires cell_on { IsOnGround question.now.grid.now.size cell }
-    requires size { size_about slope.now.distances.now ≡ question.now.grid.now.size }
+    requires { IsToldOf question.now.grid.now.size slope.now.distances.now cell }
     ensures { IsFirstTight (field_in question.now) question.now.start (slope_of slope.now) (is_dead live.now) cell 8 result }
 {
     let place = question.grid.place(cell);

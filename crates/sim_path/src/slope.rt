@@ -3,7 +3,7 @@
 
 ghost use Rattle.sim_base.specs.{Steps.IsOnGround, Steps.octile as octile_of, declared.place.Cell.Cell};
 ghost use Rattle.{sim_grid.specs.Spots.IsSpot, sim_path.specs.Questions.field_in};
-ghost use Rattle.sim_path.specs.{Floors.slope_of, MarkTables.marked_in, Stands.IsStand, Straight.IsFirstTight, Straight.IsTight, Straight.IsTightStep};
+ghost use Rattle.sim_path.specs.{Floors.slope_of, MarkTables.marked_in, Stands.IsToldOf, Stands.LooksBack, Straight.IsFirstTight, Straight.IsTight, Straight.IsTightStep};
 ghost use Rattle.sim_search.specs.Distances.{number_in, size_about};
 ghost use Rattle.std.specs.Prelude.{◌*◌, ◌+◌, ◌<◌, ◌↔◌, ◌≡◌, ◌≢◌, ◌≤◌, false, IsTrue, None, Some, true};
 
@@ -88,9 +88,7 @@ fn slope_step(
     which: u8,
     dead: &Marks,
 ) -> Option<Cell>
-    requires which_in { which < 8 }
-    requires at { IsStand (field_in question.now) question.now.start (slope_of slope.now) at }
-    requires size { size_about slope.now.distances.now ≡ question.now.grid.now.size }
+    requires { LooksBack question.now slope.now at which }
     ensures none { result ≡ None → (p : Cell) → IsTightStep (field_in question.now) question.now.start (slope_of slope.now) at.spot.cell p which
         → IsTight (field_in question.now) question.now.start (slope_of slope.now) p → marked_in dead.now p ≡ true }
     ensures some { (p : Cell) → result ≡ Some p → IsTightStep (field_in question.now) question.now.start (slope_of slope.now) at.spot.cell p which }
@@ -116,8 +114,7 @@ fn first_descent(
     cell: Cell,
     dead: &Marks,
 ) -> Option<Cell>
-    requires cell_on { IsOnGround question.now.grid.now.size cell }
-    requires size { size_about slope.now.distances.now ≡ question.now.grid.now.size }
+    requires { IsToldOf question.now.grid.now.size slope.now.distances.now cell }
     ensures { IsFirstTight (field_in question.now) question.now.start (slope_of slope.now) (marked_in dead.now) cell 8 result }
 {
     let place = question.grid.place(cell);

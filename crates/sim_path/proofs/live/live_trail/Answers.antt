@@ -40,5 +40,5 @@ loop-preserved c =
     at from other c.loop.invariant (subst (λ (o : Option Cell). IsFirstTight field start (slope_of slope) dead at 8 o) c.in-Some.is c.first_live.ensures) in
     subst (λ (t : List Cell). IsAt field start (slope_of slope) question.goal t dead from) (sym c.in_ok-push.ensures.items) further
 
-pub first_live-requires-clause-size : goal.first_live-requires-clause-size
-first_live-requires-clause-size c = c.requires.slope.size_is
+pub first_live-requires : goal.first_live-requires
+first_live-requires c = record { cell_on = c.loop.invariant.free.on; size = c.requires.slope.size_is }

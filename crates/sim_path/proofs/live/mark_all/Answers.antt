@@ -10,11 +10,14 @@ loop-init c =
     (sym (c.in_ok-push.ensures.items ∙ ap (λ (l : List Cell). l ++ c.args.question.now.start ∷ []) c.clear.ensures.items))
     (live-first field c.args.question.now.start number c.args.live.now c.set.new.self c.requires.none c.set.ensures c.args.question.now.start_on)
 
-pub mark_from-requires-clause-cell_on : goal.mark_from-requires-clause-cell_on
-mark_from-requires-clause-cell_on c =
+pub mark_from-requires-clause-cell : goal.mark_from-requires-clause-cell
+mark_from-requires-clause-cell c =
     let at = c.in-Some.at in
     let rest = c.pop.new.self.items in
-    c.loop.invariant.on at (subst (λ (l : List Cell). Contains l at) (sym c.in-Some.ensures.items) (Contains-push rest at))
+    record {
+      cell_on = c.loop.invariant.on at (subst (λ (l : List Cell). Contains l at) (sym c.in-Some.ensures.items) (Contains-push rest at));
+      size = c.requires.size;
+    }
 
 pub mark_from-requires-clause-on : goal.mark_from-requires-clause-on
 mark_from-requires-clause-on c =

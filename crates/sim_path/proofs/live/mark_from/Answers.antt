@@ -29,4 +29,4 @@ loop-which-preserved c =
 
 pub falling_step-requires-clause-at : goal.falling_step-requires-clause-at
 falling_step-requires-clause-at c =
-    record { spot = record { on = c.requires.cell_on; place_is = c.place-place.ensures }; moves = c.moves_from.ensures; cost_is = c.estimate.ensures.is }
+    record { spot = record { on = c.requires.cell.cell_on; place_is = c.place-place.ensures }; moves = c.moves_from.ensures; cost_is = c.estimate.ensures.is }

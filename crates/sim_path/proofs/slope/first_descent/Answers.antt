@@ -25,6 +25,9 @@ loop-which-preserved c =
 pub returns : goal.returns
 returns c = λ j p lt t tight. c.loop-which.invariant j p (omega (arith, lt, c.loop-which-test.false)) t tight
 
-pub slope_step-requires-clause-at : goal.slope_step-requires-clause-at
-slope_step-requires-clause-at c =
-    record { spot = record { on = c.requires.cell_on; place_is = c.place-place.ensures }; moves = c.moves_from.ensures; cost_is = c.left.ensures }
+pub slope_step-requires : goal.slope_step-requires
+slope_step-requires c = record {
+  which_in = c.loop-which-test.true;
+  stands = record { spot = record { on = c.requires.cell_on; place_is = c.place-place.ensures }; moves = c.moves_from.ensures; cost_is = c.left.ensures };
+  size = c.requires.size;
+}
