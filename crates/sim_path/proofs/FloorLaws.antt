@@ -1,13 +1,8 @@
 -- No walk costs less than the octile distance, nor than what a search knows that has come to a key.
 use Rattle.sim_path.proofs.Common.{Cell, cost_in, Costs, estimate-falls, estimate_to, Field, Front, go, HasCost, inl, inr, IsEstimate, IsFloor, IsFront, Walk}
-use Rattle.sim_path.proofs.Common.{IsSearch, IsStep, known_or, octile, octile-near, octile-self, octile_from, Ready, Search, stay, subst, sym, taken_in, turned}
-use Rattle.sim_path.proofs.Common.{◌≡◌, ℕ, ◌+◌, ◌-◌, ◌<◌, ◌≤◌, min, max, Bool, true, false, ◌⊎◌, Some, None, Option, refl, Aim, arith, beside_of, cases_Bool}
-
-octile-rises : (field : Field) (start a b : Cell) (k : ℕ) → IsStep field start a b k → octile b start ≤ octile a start + k
-octile-rises field start a b k s = omega (arith, octile-near start (turned (beside_of field start a b k s)))
-
-pub octile-floor : (field : Field) (start : Cell) → IsFloor field start (octile_from start)
-octile-floor field start = record { begins = octile-self start; rises = octile-rises field start }
+use Rattle.sim_path.proofs.Common.{IsSearch, IsStep, known_or, octile, octile-self, Ready, Search, stay, subst, sym, taken_in}
+use Rattle.sim_path.specs.OctileLaws.{octile-rises}
+use Rattle.sim_path.proofs.Common.{◌≡◌, ℕ, ◌+◌, ◌-◌, ◌<◌, ◌≤◌, min, max, Bool, true, false, ◌⊎◌, Some, None, Option, refl, Aim, arith, cases_Bool}
 
 -- no walk costs less than the octile distance
 pub octile-far : (field : Field) (start : Cell) {c : Cell} {n : ℕ} → Walk (IsStep field start) start c n → octile c start ≤ n

@@ -1,11 +1,12 @@
 //! The way from a point to another, by its points.
 
-ghost use Rattle.sim_base.specs.Places.{cell_of as cell_at, centre_of as centre_at, is_inside, IsPlaced, same_cell};
-ghost use Rattle.sim_base.specs.{Steps.IsOnGround, WayOf.way_of, Ways.IsEnd, Ways.IsWay, Ways.waypoints};
-ghost use Rattle.{sim_grid.specs.Grids.field_of_grid, sim_path.specs.Answers.way_in, sim_path.specs.Remembering.AreFirst};
-ghost use Rattle.sim_path.specs.WayEnds.{AreEnds, HasGoneTo, IsTrailToEnd, IsWayEnd, LeadBack};
-ghost use Rattle.sim_search.specs.{Estimates.IsNarrow, Floods.label_in, Regions.AreLabels, Tables.cost_in, Tables.size_of};
-ghost use Rattle.std.specs.Prelude.{[], if◌then◌else◌, ◌<◌, ◌∷◌, ◌≡◌, All, false, IfOk, IsTrue, OnOk, reverse, true};
+ghost use Rattle.{sim_grid.specs.Grids.field_of_grid, sim_search.specs.Floods.label_in};
+ghost use Rattle.std.specs.Prelude.{◌≡◌, ◌<◌, true, false, [], ◌∷◌, reverse, IfOk, if◌then◌else◌, OnOk, IsTrue, All};
+ghost use Rattle.sim_base.specs.{Places.cell_of as cell_at, Places.centre_of as centre_at, Places.is_inside, Places.IsPlaced, Places.same_cell, WayOf.way_of};
+ghost use Rattle.sim_base.specs.Ways.{IsWay, waypoints};
+ghost use Rattle.sim_path.specs.{Answers.way_in, WayEnds.HasGoneTo, WayEnds.IsWayEnd};
+ghost use Rattle.sim_path.specs.Questions.{field_in, HasItsEnds, IsBetween, IsKnown};
+ghost use Rattle.sim_search.specs.{Estimates.IsNarrow, Regions.AreLabels, Tables.cost_in, Tables.size_of};
 
 use crate::atlas::Atlas;
 use crate::end::{best_of, end_of};
@@ -15,10 +16,11 @@ use crate::live::live_to;
 use crate::marks::Marks;
 use crate::milestone::milestone;
 use crate::nearest::{is_reached, nearest, shore_of};
+use crate::question::Question;
 use crate::reached::Reached;
 use crate::remembered::Remembered;
 use crate::slope::Slope;
-use crate::straight::straight_to;
+use crate::straight::Straight;
 use crate::tight::tight_to;
 use crate::trail::trail_from;
 use crate::trip::{Trip, trip_of};
@@ -84,52 +86,29 @@ fn way_through(alloc: Global, trip: Trip<'_>, goal: &Point) -> Result<Way, OutOf
 // The way by its first cells.
 fn way_by(
     alloc: Global,
-    grid: &Grid,
+    question: &Question<'_>,
     trip: Trip<'_>,
     start: &Point,
     goal: &Point,
 ) -> Result<Way, OutOfMemory>
-    requires start { IsTrue (is_inside grid.now.size start.now) }
-    requires goal { IsTrue (is_inside grid.now.size goal.now) }
-    requires apart { same_cell (cell_at start.now) (cell_at goal.now) ≡ false }
-    requires first { ∥ AreFirst (field_of_grid grid.now) (cell_at start.now) (cell_at goal.now) trip.cells.now trip.whole ∥₁ }
-    ensures { IfOk result (λ way. way_in way ≡ way_of (field_of_grid grid.now) start.now goal.now) }
+    requires between { IsBetween question.now start.now goal.now }
+    requires first { IsKnown question.now trip.cells.now trip.whole }
+    ensures { IfOk result (λ way. way_in way ≡ way_of (field_in question.now) start.now goal.now) }
 {
-    // For what is known of the start then: its cell is one of the ground's.
-    let _ = grid.cell_of(*start);
     way_through(alloc, trip, goal)
-}
-
-// Makes the trail back from the end.
-fn trail_back(
-    grid: &Grid,
-    costs: &Costs,
-    trail: &mut Vec<Cell>,
-    end: Reached,
-    start: &Point,
-    goal: &Point,
-) -> Result<(), OutOfMemory>
-    requires start { IsTrue (is_inside grid.now.size start.now) }
-    requires end { IsEnd (field_of_grid grid.now) (cell_at start.now) (cell_at goal.now) end.cell end.cost }
-    requires back { LeadBack (field_of_grid grid.now) (cell_at start.now) (cost_in costs.now) end }
-    ensures { OnOk result (IsTrailToEnd (field_of_grid grid.now) (cell_at start.now) (cell_at goal.now) trail.new.items) }
-{
-    let from = grid.cell_of(*start);
-    trail_from(grid, costs, trail, from, end)
 }
 
 // The end of the way, by what a search has found: the best of its ends, or where none of them has a cost, the best of all
 // cells that have one.
-fn way_end(grid: &Grid, costs: &Costs, aim: Aim, ends: &[Cell], start: Cell) -> Reached
-    requires start_on { IsOnGround grid.now.size start }
-    requires size { size_of costs.now ≡ grid.now.size }
-    requires ends { AreEnds (field_of_grid grid.now) start aim.goal aim.near ends.now }
-    requires costs { HasGoneTo (field_of_grid grid.now) start aim.goal aim.near ends.now (cost_in costs.now) }
-    ensures { IsWayEnd (field_of_grid grid.now) start aim.goal (cost_in costs.now) result }
+fn way_end(question: &Question<'_>, costs: &Costs) -> Reached
+    requires size { size_of costs.now ≡ question.now.grid.now.size }
+    requires ends { HasItsEnds question.now }
+    requires costs { HasGoneTo (field_in question.now) question.now.start question.now.goal question.now.near question.now.ends.now (cost_in costs.now) }
+    ensures { IsWayEnd (field_in question.now) question.now.start question.now.goal (cost_in costs.now) result }
 {
-    match best_of(costs, ends, aim.goal) {
+    match best_of(costs, question.ends, question.goal) {
         Some(end) => end,
-        None => end_of(costs, start, aim.goal),
+        None => end_of(costs, question.start, question.goal),
     }
 }
 
@@ -142,18 +121,24 @@ pub fn way(alloc: Global, grid: &Grid, start: Point, goal: Point) -> Result<Way,
     ensures is_way { IfOk result (λ way. IsWay (field_of_grid grid.now) start goal (way_in way)) }
     ensures way_of { IfOk result (λ way. way_in way ≡ way_of (field_of_grid grid.now) start goal) }
 {
-    let (start, goal) = (&start, &goal);
-    let from = grid.cell_of(*start);
-    let to = grid.cell_of(*goal);
+    let from = grid.cell_of(start);
+    let to = grid.cell_of(goal);
     if from == to {
-        return way_within(alloc, goal);
+        return way_within(alloc, &goal);
     }
     let costs = least_costs(alloc, grid, from)?;
     let end = end_of(&costs, from, to);
+    let question = Question {
+        grid,
+        start: from,
+        goal: to,
+        near: 0,
+        ends: &[to],
+    };
     let mut trail = Vec::new(alloc);
-    trail_back(grid, &costs, &mut trail, end, start, goal)?;
+    trail_from(&question, &costs, &mut trail, end)?;
     turn(&mut trail);
-    way_by(alloc, grid, trip_of(trail.as_slice()), start, goal)
+    way_by(alloc, &question, trip_of(trail.as_slice()), &start, &goal)
 }
 
 // From which detour on a search counts, which is how much more its way costs than the straight one: landmarks spare little where ways
@@ -184,12 +169,11 @@ pub struct Searcher {
 
 impl Searcher {
     ghost use Rattle.{sim_grid.specs.Grids.field_of_grid, sim_search.specs.Floods.label_in, sim_search.specs.Queues.Ready, sim_search.specs.Regions.AreLabels};
-    ghost use Rattle.std.specs.Prelude.{◌≡◌, ◌^◌, ◌<◌, true, false, IfOk, IfSome, OnOk, IsTrue};
-    ghost use Rattle.sim_base.specs.{Places.cell_of as cell_at, Places.is_inside, Places.same_cell, WayOf.way_of, Ways.IsWay, declared.place.Cell.Cell};
-    ghost use Rattle.sim_base.specs.Steps.{IsOnGround, octile};
-    ghost use Rattle.{sim_grid.specs.Grids.is_open_at, sim_search.specs.Rows.AreLandmarks, sim_search.specs.Rows.row_in};
-    ghost use Rattle.sim_search.specs.Distances.{AreDistances, number_in, size_about};
-    ghost use Rattle.sim_path.specs.{Answers.way_in, Atlases.ground_in, Floors.IsFront, Remembering.AreFirst, WayEnds.AreEnds, WayEnds.IsTrailToEnd};
+    ghost use Rattle.std.specs.Prelude.{◌≡◌, ◌^◌, ◌<◌, true, IfOk, IfSome, OnOk, IsTrue};
+    ghost use Rattle.sim_base.specs.{Places.is_inside, Steps.octile, WayOf.way_of, Ways.IsWay, declared.place.Cell.Cell};
+    ghost use Rattle.sim_search.specs.Rows.{AreLandmarks, row_in};
+    ghost use Rattle.sim_path.specs.{Answers.way_in, Atlases.ground_in, Floors.IsSlope};
+    ghost use Rattle.sim_path.specs.Questions.{field_in, HasItsEnds, IsBetween, IsItsTrail, IsKnown, IsToTheGoal};
 
     /// A searcher that has no rooms yet.
     pub fn new() -> Searcher {
@@ -219,29 +203,42 @@ impl Searcher {
         ensures is_way { IfOk result (λ way. IsWay (field_of_grid grid.now) start goal (way_in way)) }
         ensures way_of { IfOk result (λ way. way_in way ≡ way_of (field_of_grid grid.now) start goal) }
     {
-        let (start, goal) = (&start, &goal);
-        let from = grid.cell_of(*start);
-        let to = grid.cell_of(*goal);
+        let from = grid.cell_of(start);
+        let to = grid.cell_of(goal);
         if from == to {
-            return way_within(alloc, goal);
+            return way_within(alloc, &goal);
         }
-        if let Some(trip) = self.trip(grid, from, to) {
-            return way_by(alloc, grid, trip, start, goal);
+        let question = Question {
+            grid,
+            start: from,
+            goal: to,
+            near: 0,
+            ends: &[to],
+        };
+        if let Some(trip) = self.trip(&question) {
+            return way_by(alloc, &question, trip, &start, &goal);
         }
         let shore = shore_of(grid, labels, from);
         if is_reached(&shore, to) {
-            return self.way_to(alloc, grid, 0, &[to], start, goal);
+            return self.way_to(alloc, &question, &start, &goal);
         }
         let ends = nearest(alloc, &shore, to)?;
-        self.way_to(alloc, grid, ends.near, ends.cells.as_slice(), start, goal)
+        let question = Question {
+            grid,
+            start: from,
+            goal: to,
+            near: ends.near,
+            ends: ends.cells.as_slice(),
+        };
+        self.way_to(alloc, &question, &start, &goal)
     }
 
-    // The way between these cells, if it is remembered.
-    fn trip(&self, grid: &Grid, from: Cell, to: Cell) -> Option<Trip<'_>>
-        ensures { IfSome result (λ trip. ∥ AreFirst (field_of_grid grid.now) from to trip.cells.now trip.whole ∥₁) }
+    // The way, if it is remembered.
+    fn trip(&self, question: &Question<'_>) -> Option<Trip<'_>>
+        ensures { IfSome result (λ trip. IsKnown question.now trip.cells.now trip.whole) }
     {
         match &self.ways {
-            Some(ways) => ways.trip(grid, from, to),
+            Some(ways) => ways.trip(question),
             None => None,
         }
     }
@@ -256,47 +253,43 @@ impl Searcher {
         }
     }
 
-    // Remembers a way between these cells. It is only kept, so want of memory is no refusal.
-    fn remember(&mut self, alloc: Global, grid: &Grid, from: Cell, to: Cell, trip: Trip<'_>)
-        requires { ∥ AreFirst (field_of_grid grid.now) from to trip.cells.now trip.whole ∥₁ }
+    // Remembers the way. It is only kept, so want of memory is no refusal.
+    fn remember(&mut self, alloc: Global, question: &Question<'_>, trip: Trip<'_>)
+        requires { IsKnown question.now trip.cells.now trip.whole }
     {
-        if let Ok(mut ways) = self.ways_of(alloc, grid) {
-            let _ = ways.keep(from, to, trip);
+        if let Ok(mut ways) = self.ways_of(alloc, question.grid) {
+            let _ = ways.keep(question.start, question.goal, trip);
             self.ways = Some(ways);
         }
     }
 
-    // The way to the best of these ends. It is remembered where it took a search, or the ends did.
+    // The way to the best of the ends. It is remembered where it took a search, or the ends did.
     fn way_to(
         &mut self,
         alloc: Global,
-        grid: &Grid,
-        near: u32,
-        ends: &[Cell],
+        question: &Question<'_>,
         start: &Point,
         goal: &Point,
     ) -> Result<Way, OutOfMemory>
-        requires start { IsTrue (is_inside grid.now.size start.now) }
-        requires goal { IsTrue (is_inside grid.now.size goal.now) }
-        requires apart { same_cell (cell_at start.now) (cell_at goal.now) ≡ false }
-        requires ends { AreEnds (field_of_grid grid.now) (cell_at start.now) (cell_at goal.now) near ends.now }
-        ensures { IfOk result (λ way. way_in way ≡ way_of (field_of_grid grid.now) start.now goal.now) }
+        requires between { IsBetween question.now start.now goal.now }
+        requires ends { HasItsEnds question.now }
+        ensures { IfOk result (λ way. way_in way ≡ way_of (field_in question.now) start.now goal.now) }
     {
-        let (from, to) = (grid.cell_of(*start), grid.cell_of(*goal));
         let mut trail = room_of(alloc, self.trail.take());
-        let searched = self.find(alloc, grid, &mut trail, near, ends, start, goal)?;
+        let searched = self.find(alloc, question, &mut trail)?;
         turn(&mut trail);
         let trip = trip_of(trail.as_slice());
-        if searched || near != 0 {
-            self.remember(alloc, grid, from, to, trip);
+        if searched || question.near != 0 {
+            self.remember(alloc, question, trip);
         }
-        let way = way_by(alloc, grid, trip, start, goal);
+        let way = way_by(alloc, question, trip, start, goal);
         self.trail = Some(trail);
         way
     }
 
     // Whether a way may be straight: distances that are kept may tell that it is longer. This only spares a try.
-    fn may_be_straight(&self, from: Cell, to: Cell) -> bool {
+    fn may_be_straight(&self, question: &Question<'_>) -> bool {
+        let (from, to) = (question.start, question.goal);
         let Some(atlas) = &self.atlas else {
             return true;
         };
@@ -309,59 +302,38 @@ impl Searcher {
         }
     }
 
-    // Makes the trail back from the best of these ends, with no search where the way is straight, and says whether there was one.
+    // Makes the trail back from the best of the ends, with no search where the way is straight, and says whether there was one.
     fn find(
         &mut self,
         alloc: Global,
-        grid: &Grid,
+        question: &Question<'_>,
         trail: &mut Vec<Cell>,
-        near: u32,
-        ends: &[Cell],
-        start: &Point,
-        goal: &Point,
     ) -> Result<bool, OutOfMemory>
-        requires start { IsTrue (is_inside grid.now.size start.now) }
-        requires goal { IsTrue (is_inside grid.now.size goal.now) }
-        requires ends { AreEnds (field_of_grid grid.now) (cell_at start.now) (cell_at goal.now) near ends.now }
-        ensures { OnOk result (IsTrailToEnd (field_of_grid grid.now) (cell_at start.now) (cell_at goal.now) trail.new.items) }
+        requires ends { HasItsEnds question.now }
+        ensures { OnOk result (IsItsTrail question.now trail.new.items) }
     {
-        let from = grid.cell_of(*start);
-        let to = grid.cell_of(*goal);
-        if self.may_be_straight(from, to) {
-            let mut dead = blank_marks(alloc, self.marks.take(), grid.width(), grid.depth())?;
-            let straight = straight_to(grid, &mut dead, trail, near, ends, from, to)?;
-            self.marks = Some(dead);
-            if straight {
-                return Ok(false);
-            }
+        if self.may_be_straight(question) && self.go_back(alloc, question, Straight {}, trail)? {
+            return Ok(false);
         }
-        self.search(alloc, grid, trail, near, ends, start, goal)?;
+        self.search(alloc, question, trail)?;
         Ok(true)
     }
 
-    // Whether a way to one of these ends costs as little as the search knows that it must. If so, the trail is made of its
-    // cells, back from that end. False says nothing.
+    // Whether a way to one of the ends costs as little as it is known that it must. If so, the trail is made of its cells, back
+    // from that end. False says nothing.
     fn go_back<F: Descent>(
         &mut self,
         alloc: Global,
-        grid: &Grid,
+        question: &Question<'_>,
         floor: F,
         trail: &mut Vec<Cell>,
-        near: u32,
-        ends: &[Cell],
-        start: &Point,
-        goal: &Point,
     ) -> Result<bool, OutOfMemory>
-        requires start { IsTrue (is_inside grid.now.size start.now) }
-        requires goal { IsTrue (is_inside grid.now.size goal.now) }
-        requires floor { F.holds (field_of_grid grid.now) (cell_at start.now) floor }
-        requires ends { AreEnds (field_of_grid grid.now) (cell_at start.now) (cell_at goal.now) near ends.now }
-        ensures { IfOk result (λ found. found ≡ true → IsTrailToEnd (field_of_grid grid.now) (cell_at start.now) (cell_at goal.now) trail.new.items) }
+        requires floor { F.holds (field_in question.now) question.now.start floor }
+        requires ends { HasItsEnds question.now }
+        ensures { IfOk result (λ found. found ≡ true → IsItsTrail question.now trail.new.items) }
     {
-        let from = grid.cell_of(*start);
-        let to = grid.cell_of(*goal);
-        let mut dead = blank_marks(alloc, self.marks.take(), grid.width(), grid.depth())?;
-        let found = tight_to(grid, floor, &mut dead, trail, near, ends, from, to);
+        let mut dead = blank_marks(alloc, self.marks.take(), question.grid)?;
+        let found = tight_to(question, floor, &mut dead, trail);
         self.marks = Some(dead);
         found
     }
@@ -389,32 +361,25 @@ impl Searcher {
         many
     }
 
-    // Makes the trail back from the best of these ends by a search, with what is kept of this ground, where something is.
+    // Makes the trail back from the best of the ends by a search, with what is kept of this ground, where something is.
     fn search(
         &mut self,
         alloc: Global,
-        grid: &Grid,
+        question: &Question<'_>,
         trail: &mut Vec<Cell>,
-        near: u32,
-        ends: &[Cell],
-        start: &Point,
-        goal: &Point,
     ) -> Result<(), OutOfMemory>
-        requires start { IsTrue (is_inside grid.now.size start.now) }
-        requires goal { IsTrue (is_inside grid.now.size goal.now) }
-        requires ends { AreEnds (field_of_grid grid.now) (cell_at start.now) (cell_at goal.now) near ends.now }
-        ensures { OnOk result (IsTrailToEnd (field_of_grid grid.now) (cell_at start.now) (cell_at goal.now) trail.new.items) }
+        requires ends { HasItsEnds question.now }
+        ensures { OnOk result (IsItsTrail question.now trail.new.items) }
     {
-        let from = grid.cell_of(*start);
-        if near != 0 || !grid.open(from) {
-            self.search_straight(alloc, grid, trail, near, ends, start, goal)?;
+        if question.near != 0 || !question.grid.open(question.start) {
+            self.search_straight(alloc, question, trail)?;
             return Ok(());
         }
         // It is only kept, so want of memory is no refusal.
-        if let Ok(atlas) = self.atlas_of(alloc, grid) {
-            return self.search_kept(alloc, grid, atlas, trail, ends, start, goal);
+        if let Ok(atlas) = self.atlas_of(alloc, question.grid) {
+            return self.search_kept(alloc, question, atlas, trail);
         }
-        self.search_straight(alloc, grid, trail, 0, ends, start, goal)?;
+        self.search_straight(alloc, question, trail)?;
         Ok(())
     }
 
@@ -422,26 +387,19 @@ impl Searcher {
     fn search_kept(
         &mut self,
         alloc: Global,
-        grid: &Grid,
+        question: &Question<'_>,
         mut atlas: Atlas,
         trail: &mut Vec<Cell>,
-        ends: &[Cell],
-        start: &Point,
-        goal: &Point,
     ) -> Result<(), OutOfMemory>
-        requires start { IsTrue (is_inside grid.now.size start.now) }
-        requires goal { IsTrue (is_inside grid.now.size goal.now) }
-        requires is_open { is_open_at grid.now (cell_at start.now) ≡ true }
-        requires atlas { ground_in atlas.cells ≡ grid.now }
-        requires ends { AreEnds (field_of_grid grid.now) (cell_at start.now) (cell_at goal.now) 0 ends.now }
-        ensures { OnOk result (IsTrailToEnd (field_of_grid grid.now) (cell_at start.now) (cell_at goal.now) trail.new.items) }
+        requires to_goal { IsToTheGoal question.now }
+        requires atlas { ground_in atlas.cells ≡ question.now.grid.now }
+        ensures { OnOk result (IsItsTrail question.now trail.new.items) }
     {
-        let found = self.search_by(alloc, grid, &atlas, trail, ends, start, goal);
+        let found = self.search_by(alloc, question, &atlas, trail);
         if let Ok(pains) = &found {
-            let (from, to) = (grid.cell_of(*start), grid.cell_of(*goal));
-            atlas.note(alloc, grid, &mut self.rooms, to, pains.opened);
+            atlas.note(alloc, question, &mut self.rooms, pains.opened);
             if atlas.landmarks.is_none() && self.are_winding(pains.detour) {
-                atlas.set_landmarks(alloc, grid, from);
+                atlas.set_landmarks(alloc, question);
             }
         }
         self.atlas = Some(atlas);
@@ -449,86 +407,62 @@ impl Searcher {
         Ok(())
     }
 
-    // The same by the best that is kept of this ground, to the goal itself.
+    // The same by the best that is kept of this ground, to the goal itself. By distances to the goal the way is read off.
     fn search_by(
         &mut self,
         alloc: Global,
-        grid: &Grid,
+        question: &Question<'_>,
         atlas: &Atlas,
         trail: &mut Vec<Cell>,
-        ends: &[Cell],
-        start: &Point,
-        goal: &Point,
     ) -> Result<Pains, OutOfMemory>
-        requires start { IsTrue (is_inside grid.now.size start.now) }
-        requires goal { IsTrue (is_inside grid.now.size goal.now) }
-        requires is_open { is_open_at grid.now (cell_at start.now) ≡ true }
-        requires atlas { ground_in atlas.now.cells ≡ grid.now }
-        requires ends { AreEnds (field_of_grid grid.now) (cell_at start.now) (cell_at goal.now) 0 ends.now }
-        ensures { OnOk result (IsTrailToEnd (field_of_grid grid.now) (cell_at start.now) (cell_at goal.now) trail.new.items) }
+        requires to_goal { IsToTheGoal question.now }
+        requires atlas { ground_in atlas.now.cells ≡ question.now.grid.now }
+        ensures { OnOk result (IsItsTrail question.now trail.new.items) }
     {
-        if let Some(distances) = atlas.distances_to(grid.cell_of(*goal)) {
-            return self.search_toward(alloc, grid, distances, trail, ends, start, goal);
+        if let Some(distances) = atlas.distances_to(question.goal) {
+            let slope = Slope::of(distances, question.start);
+            if self.go_down(alloc, question, slope, trail)? {
+                return Ok(no_pains());
+            }
+            return self.search_straight(alloc, question, trail);
         }
         match &atlas.landmarks {
-            Some(landmarks) => {
-                self.search_ahead(alloc, grid, landmarks, trail, ends, start, goal)
-            }
-            None => self.search_straight(alloc, grid, trail, 0, ends, start, goal),
+            Some(landmarks) => self.search_ahead(alloc, question, landmarks, trail),
+            None => self.search_straight(alloc, question, trail),
         }
     }
 
-    // The same with these distances to the goal.
-    fn search_toward(
+    // Whether the way is found with no search by distances to the goal. If so, the trail is made of its cells. False says nothing.
+    fn go_down(
         &mut self,
         alloc: Global,
-        grid: &Grid,
-        distances: &Distances,
+        question: &Question<'_>,
+        slope: Slope<'_>,
         trail: &mut Vec<Cell>,
-        ends: &[Cell],
-        start: &Point,
-        goal: &Point,
-    ) -> Result<Pains, OutOfMemory>
-        requires start { IsTrue (is_inside grid.now.size start.now) }
-        requires goal { IsTrue (is_inside grid.now.size goal.now) }
-        requires is_open { is_open_at grid.now (cell_at start.now) ≡ true }
-        requires size { size_about distances.now ≡ grid.now.size }
-        requires distances { AreDistances (field_of_grid grid.now) (cell_at goal.now) (number_in distances.now) }
-        requires ends { AreEnds (field_of_grid grid.now) (cell_at start.now) (cell_at goal.now) 0 ends.now }
-        ensures { OnOk result (IsTrailToEnd (field_of_grid grid.now) (cell_at start.now) (cell_at goal.now) trail.new.items) }
+    ) -> Result<bool, OutOfMemory>
+        requires slope { IsSlope (field_in question.now) question.now.start slope }
+        requires ends { HasItsEnds question.now }
+        ensures { IfOk result (λ found. found ≡ true → IsItsTrail question.now trail.new.items) }
     {
-        let slope = Slope::of(distances, grid.cell_of(*start));
-        if self.go_back(alloc, grid, slope, trail, 0, ends, start, goal)? {
-            return Ok(no_pains());
+        if self.go_back(alloc, question, slope, trail)? {
+            return Ok(true);
         }
-        if self.go_live(alloc, grid, distances, trail, start, goal)? {
-            return Ok(no_pains());
-        }
-        self.search_straight(alloc, grid, trail, 0, ends, start, goal)
+        self.go_live(alloc, question, &slope, trail)
     }
 
-    // Whether the way is read off these distances to the goal. If so, the trail is made of its cells. False says nothing.
+    // Whether the way is read off the distances to the goal. If so, the trail is made of its cells. False says nothing.
     fn go_live(
         &mut self,
         alloc: Global,
-        grid: &Grid,
-        distances: &Distances,
+        question: &Question<'_>,
+        slope: &Slope<'_>,
         trail: &mut Vec<Cell>,
-        start: &Point,
-        goal: &Point,
     ) -> Result<bool, OutOfMemory>
-        requires start { IsTrue (is_inside grid.now.size start.now) }
-        requires goal { IsTrue (is_inside grid.now.size goal.now) }
-        requires is_open { is_open_at grid.now (cell_at start.now) ≡ true }
-        requires size { size_about distances.now ≡ grid.now.size }
-        requires distances { AreDistances (field_of_grid grid.now) (cell_at goal.now) (number_in distances.now) }
-        ensures { IfOk result (λ found. found ≡ true → IsTrailToEnd (field_of_grid grid.now) (cell_at start.now) (cell_at goal.now) trail.new.items) }
+        requires { IsSlope (field_in question.now) question.now.start slope.now }
+        ensures { IfOk result (λ found. found ≡ true → IsItsTrail question.now trail.new.items) }
     {
-        let from = grid.cell_of(*start);
-        let to = grid.cell_of(*goal);
-        let slope = Slope::of(distances, from);
-        let mut live = blank_marks(alloc, self.marks.take(), grid.width(), grid.depth())?;
-        let found = live_to(grid, &slope, &mut live, trail, from, to);
+        let mut live = blank_marks(alloc, self.marks.take(), question.grid)?;
+        let found = live_to(question, slope, &mut live, trail);
         self.marks = Some(live);
         found
     }
@@ -537,28 +471,27 @@ impl Searcher {
     fn search_ahead(
         &mut self,
         alloc: Global,
-        grid: &Grid,
+        question: &Question<'_>,
         landmarks: &Landmarks,
         trail: &mut Vec<Cell>,
-        ends: &[Cell],
-        start: &Point,
-        goal: &Point,
     ) -> Result<Pains, OutOfMemory>
-        requires start { IsTrue (is_inside grid.now.size start.now) }
-        requires goal { IsTrue (is_inside grid.now.size goal.now) }
-        requires is_open { is_open_at grid.now (cell_at start.now) ≡ true }
-        requires landmarks { AreLandmarks (field_of_grid grid.now) (row_in landmarks.now) }
-        requires ends { AreEnds (field_of_grid grid.now) (cell_at start.now) (cell_at goal.now) 0 ends.now }
-        ensures { OnOk result (IsTrailToEnd (field_of_grid grid.now) (cell_at start.now) (cell_at goal.now) trail.new.items) }
+        requires to_goal { IsToTheGoal question.now }
+        requires landmarks { AreLandmarks (field_in question.now) (row_in landmarks.now) }
+        ensures { OnOk result (IsItsTrail question.now trail.new.items) }
     {
-        let from = grid.cell_of(*start);
         let aim = Aim {
-            goal: grid.cell_of(*goal),
-            near: 0,
+            goal: question.goal,
+            near: question.near,
         };
         let guide = Ahead::of(aim, landmarks);
-        let stage = started(alloc, grid, self.rooms.take(), guide, from)?;
-        self.finish(alloc, grid, stage, guide, trail, 0, ends, start, goal)
+        let stage = started(
+            alloc,
+            question.grid,
+            self.rooms.take(),
+            guide,
+            question.start,
+        )?;
+        self.finish(alloc, question, stage, guide, trail)
     }
 
     // The same by the octile estimate, and how dear the search was. Where the goal is far and a milestone before it is come to, a
@@ -566,68 +499,58 @@ impl Searcher {
     fn search_straight(
         &mut self,
         alloc: Global,
-        grid: &Grid,
+        question: &Question<'_>,
         trail: &mut Vec<Cell>,
-        near: u32,
-        ends: &[Cell],
-        start: &Point,
-        goal: &Point,
     ) -> Result<Pains, OutOfMemory>
-        requires start { IsTrue (is_inside grid.now.size start.now) }
-        requires goal { IsTrue (is_inside grid.now.size goal.now) }
-        requires ends { AreEnds (field_of_grid grid.now) (cell_at start.now) (cell_at goal.now) near ends.now }
-        ensures { OnOk result (IsTrailToEnd (field_of_grid grid.now) (cell_at start.now) (cell_at goal.now) trail.new.items) }
+        requires ends { HasItsEnds question.now }
+        ensures { OnOk result (IsItsTrail question.now trail.new.items) }
     {
-        let from = grid.cell_of(*start);
-        let to = grid.cell_of(*goal);
-        let aim = Aim { goal: to, near };
-        let stage = started(alloc, grid, self.rooms.take(), aim, from)?;
-        let Some(milestone) = milestone(grid, from, to, near) else {
-            return self.finish(alloc, grid, stage, aim, trail, near, ends, start, goal);
+        let aim = Aim {
+            goal: question.goal,
+            near: question.near,
         };
-        let stage = go_on(alloc, stage, grid, aim, &[milestone, to])?;
+        let stage = started(alloc, question.grid, self.rooms.take(), aim, question.start)?;
+        let Some(milestone) = milestone(question) else {
+            return self.finish(alloc, question, stage, aim, trail);
+        };
+        let stage = go_on(
+            alloc,
+            stage,
+            question.grid,
+            aim,
+            &[milestone, question.goal],
+        )?;
         let (costs, key) = (&stage.search.costs, stage.key);
         let front = Front { costs, aim, key };
-        if self.go_back(alloc, grid, front, trail, near, ends, start, goal)? {
-            let pains = pains_of(&stage, aim, from);
+        if self.go_back(alloc, question, front, trail)? {
+            let pains = pains_of(&stage, aim, question.start);
             self.rooms = Some(search_of(stage));
             return Ok(pains);
         }
-        self.finish(alloc, grid, stage, aim, trail, near, ends, start, goal)
+        self.finish(alloc, question, stage, aim, trail)
     }
 
     // Makes the trail back by all that a search can tell, and answers how dear it was.
     fn finish<A: Guide>(
         &mut self,
         alloc: Global,
-        grid: &Grid,
+        question: &Question<'_>,
         stage: Stage,
         guide: A,
         trail: &mut Vec<Cell>,
-        near: u32,
-        ends: &[Cell],
-        start: &Point,
-        goal: &Point,
     ) -> Result<Pains, OutOfMemory>
-        requires start { IsTrue (is_inside grid.now.size start.now) }
-        requires goal { IsTrue (is_inside grid.now.size goal.now) }
-        requires ends { AreEnds (field_of_grid grid.now) (cell_at start.now) (cell_at goal.now) near ends.now }
-        requires from { stage.search.start ≡ cell_at start.now }
-        requires none_left { (c : Cell) → octile c (cell_at goal.now) ≡ near → A.estimate_of guide c ≡ 0 }
-        requires ready { Ready (A.estimate_of guide) (field_of_grid grid.now) stage.search stage.key 0 }
+        requires ends { HasItsEnds question.now }
+        requires from { stage.search.start ≡ question.now.start }
+        requires none_left { (c : Cell) → octile c question.now.goal ≡ question.now.near → A.estimate_of guide c ≡ 0 }
+        requires ready { Ready (A.estimate_of guide) (field_in question.now) stage.search stage.key 0 }
         requires small { stage.key < 2 ^ 26 }
-        ensures { OnOk result (IsTrailToEnd (field_of_grid grid.now) (cell_at start.now) (cell_at goal.now) trail.new.items) }
+        ensures { OnOk result (IsItsTrail question.now trail.new.items) }
     {
-        let from = grid.cell_of(*start);
-        let aim = Aim {
-            goal: grid.cell_of(*goal),
-            near,
-        };
-        let stage = go_on(alloc, stage, grid, guide, ends)?;
-        let pains = pains_of(&stage, guide, from);
+        let stage = go_on(alloc, stage, question.grid, guide, question.ends)?;
+        let pains = pains_of(&stage, guide, question.start);
         let costs = &stage.search.costs;
-        let end = way_end(grid, costs, aim, ends, from);
-        let found = trail_back(grid, costs, trail, end, start, goal);
+        let end = way_end(question, costs);
+        let found = trail_from(question, costs, trail, end);
         self.rooms = Some(search_of(stage));
         found?;
         Ok(pains)

@@ -7,6 +7,7 @@ ghost use Rattle.sim_path.specs.Atlases.{AreOn, ground_in};
 
 use crate::dear::Dear;
 use crate::kept::KeptCells;
+use crate::question::Question;
 use sim_base::{Cell, OutOfMemory};
 use sim_grid::Grid;
 use sim_search::{Distances, Landmarks, Search, distances_to, landmarks_on};
@@ -29,7 +30,7 @@ pub struct Atlas {
 
 impl Atlas {
     ghost use Rattle.std.specs.Prelude.{◌≡◌, true, IfOk, IfSome};
-    ghost use Rattle.{sim_base.specs.Steps.IsOnGround, sim_grid.specs.Grids.field_of_grid, sim_grid.specs.Grids.is_open_at};
+    ghost use Rattle.sim_grid.specs.Grids.{field_of_grid, is_open_at};
     ghost use Rattle.sim_path.specs.Atlases.{AreOn, ground_in};
     ghost use Rattle.sim_search.specs.Distances.{AreDistances, number_in, size_about};
 
@@ -47,13 +48,12 @@ impl Atlas {
         })
     }
 
-    /// Sets landmarks that a walk from a cell reaches. They are only kept, so want of memory is no refusal.
-    pub fn set_landmarks(&mut self, alloc: Global, grid: &Grid, from: Cell)
-        requires on { IsOnGround grid.now.size from }
-        requires is_open { is_open_at grid.now from ≡ true }
-        requires ground { ground_in self.old.cells ≡ grid.now }
+    /// Sets landmarks that a walk from the start reaches. They are only kept, so want of memory is no refusal.
+    pub fn set_landmarks(&mut self, alloc: Global, question: &Question<'_>)
+        requires is_open { is_open_at question.now.grid.now question.now.start ≡ true }
+        requires ground { ground_in self.old.cells ≡ question.now.grid.now }
     {
-        if let Ok(landmarks) = landmarks_on(alloc, grid, from) {
+        if let Ok(landmarks) = landmarks_on(alloc, question.grid, question.start) {
             self.landmarks = Some(landmarks);
         }
     }
@@ -78,20 +78,19 @@ impl Atlas {
         None
     }
 
-    /// Notes how many cells a search to a goal opened, and reckons the distances to it after many. They are only kept, so want of
+    /// Notes how many cells a search to the goal opened, and reckons the distances to it after many. They are only kept, so want of
     /// memory is no refusal.
     pub fn note(
         &mut self,
         alloc: Global,
-        grid: &Grid,
+        question: &Question<'_>,
         rooms: &mut Option<Search>,
-        goal: Cell,
         opened: usize,
     )
-        requires on { IsOnGround grid.now.size goal }
-        requires ground { ground_in self.old.cells ≡ grid.now }
-        ensures { ground_in self.new.cells ≡ grid.now }
+        requires { ground_in self.old.cells ≡ question.now.grid.now }
+        ensures { ground_in self.new.cells ≡ question.now.grid.now }
     {
+        let (grid, goal) = (question.grid, question.goal);
         if self.distances_to(goal).is_none() && self.dear.add(goal, opened) && grid.open(goal) {
             if let Ok(distances) = distances_to(alloc, grid, rooms, goal) {
                 self.keep(distances);

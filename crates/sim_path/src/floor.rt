@@ -1,13 +1,13 @@
 //! What walks from a start cost at least. It stands apart from what tells it, since the ways back that are found by it read no more.
 
 ghost use Rattle.std.specs.Prelude.{◌≡◌, ℕ, ◌↔◌, true, IsTrue};
-ghost use Rattle.{sim_base.specs.declared.place.Cell.Cell, sim_grid.specs.Grids.field_of_grid, sim_path.specs.MarkTables.marked_in};
+ghost use Rattle.{sim_base.specs.declared.place.Cell.Cell, sim_path.specs.MarkTables.marked_in, sim_path.specs.Questions.field_in};
 ghost use Rattle.sim_base.specs.Steps.{Field, is_free, IsOnGround};
 ghost use Rattle.sim_path.specs.{WalkFloors.IsFloor, Straight.IsFirstTight};
 
 use crate::marks::Marks;
+use crate::question::Question;
 use sim_base::Cell;
-use sim_grid::Grid;
 
 /// What walks from a start cost at least. A walk back is handed one by which no walk costs less.
 pub trait Floor: Copy {
@@ -35,10 +35,9 @@ pub trait Descent: Floor {
     fn tries(self, start: Cell, end: Cell) -> u32;
 
     /// The first cell in the order of the directions from which a step makes up the floor of this one, but for the dead ones.
-    fn first_tight(self, grid: &Grid, start: Cell, at: Cell, dead: &Marks) -> Option<Cell>
-        requires start_on { IsOnGround grid.now.size start }
-        requires at_on { IsOnGround grid.now.size at }
-        requires free { is_free (field_of_grid grid.now) start at ≡ true }
-        requires floor { Self.holds (field_of_grid grid.now) start self }
-        ensures { IsFirstTight (field_of_grid grid.now) start (Self.floor_of self start) (marked_in dead.now) at 8 result };
+    fn first_tight(self, question: &Question<'_>, at: Cell, dead: &Marks) -> Option<Cell>
+        requires at_on { IsOnGround question.now.grid.now.size at }
+        requires free { is_free (field_in question.now) question.now.start at ≡ true }
+        requires floor { Self.holds (field_in question.now) question.now.start self }
+        ensures { IsFirstTight (field_in question.now) question.now.start (Self.floor_of self question.now.start) (marked_in dead.now) at 8 result };
 }

@@ -1,19 +1,20 @@
 //! What walks from a start cost at least, by what a search knows that has come to a key.
 
-ghost use Rattle.{sim_grid.specs.Grids.field_of_grid, sim_path.specs.MarkTables.marked_in};
-ghost use Rattle.std.specs.Prelude.{◌≡◌, ◌<◌, ◌↔◌, true, IsTrue, Some, None};
+ghost use Rattle.sim_path.specs.{MarkTables.marked_in, Questions.field_behind, Questions.field_in};
+ghost use Rattle.std.specs.Prelude.{◌≡◌, ◌↔◌, true, IsTrue, Some, None};
 ghost use Rattle.sim_base.specs.{Steps.is_free as is_free_in, Steps.IsOnGround, declared.place.Cell.Cell};
 ghost use Rattle.sim_path.specs.{Floors.floor_of, Floors.IsFront, Floors.IsUnknown, Floors.left_of, Straight.IsFirstTight, Straight.IsNearStep};
-ghost use Rattle.sim_search.specs.Moves.{AreMoves};
 
 use crate::away::away_from;
 use crate::floor::{Descent, Floor};
 use crate::marks::Marks;
+use crate::question::Question;
 use crate::reached::Reached;
+use crate::step_back::StepBack;
 use crate::tight::first_known;
 use sim_base::Cell;
-use sim_grid::{Grid, octile};
-use sim_search::{Aim, Costs, Guide, moves_from, step, step_cost};
+use sim_grid::octile;
+use sim_search::{Aim, Costs, Guide, moves_from, step_cost};
 
 /// The costs that a search knows, where it has taken the cells of lower keys than this one.
 #[derive(Clone, Copy)]
@@ -43,22 +44,14 @@ fn is_unknown(front: &Front, start: Cell, cell: Cell, left: u32) -> bool
 
 // The cell in a direction, if the octile distance leaves as much of a cost for it as a step from there takes, and it isn't
 // dead.
-fn near_step(
-    grid: &Grid,
-    start: Cell,
-    at: Reached,
-    moves: u8,
-    which: u8,
-    dead: &Marks,
-) -> Option<Cell>
-    requires which_in { which < 8 }
-    requires at_on { IsOnGround grid.now.size at.cell }
-    requires moves { AreMoves (field_of_grid grid.now) start at.cell moves }
-    ensures none { result ≡ None → (p : Cell) → IsNearStep (field_of_grid grid.now) start at p which → marked_in dead.now p ≡ true }
-    ensures some { (p : Cell) → result ≡ Some p → IsNearStep (field_of_grid grid.now) start at p which }
+fn near_step(back: &StepBack<'_>, dead: &Marks) -> Option<Cell>
+    ensures none { result ≡ None → (p : Cell) → IsNearStep (field_behind back.now) back.now.question.now.start back.now.at p back.now.which
+        → marked_in dead.now p ≡ true }
+    ensures some { (p : Cell) → result ≡ Some p → IsNearStep (field_behind back.now) back.now.question.now.start back.now.at p back.now.which }
 {
-    let from = step(grid, start, at.cell, moves, which)?;
-    if octile(from, start) + step_cost(which) <= at.cost && !dead.at(from) {
+    let from = back.step()?;
+    let straight = octile(from, back.question.start);
+    if straight + step_cost(back.which) <= back.at.cost && !dead.at(from) {
         Some(from)
     } else {
         None
@@ -67,20 +60,25 @@ fn near_step(
 
 // The first cell in the order of the directions from which a step makes up the floor of this one, but for the dead ones, where
 // this one has no cost yet: such a step comes from straight beyond it, as seen from the goal.
-fn first_unknown(grid: &Grid, front: &Front, start: Cell, at: Reached, dead: &Marks) -> Option<Cell>
-    requires start_on { IsOnGround grid.now.size start }
-    requires at_on { IsOnGround grid.now.size at.cell }
-    requires free { is_free_in (field_of_grid grid.now) start at.cell ≡ true }
-    requires front { IsFront (field_of_grid grid.now) start front.now }
-    requires unknown { IsUnknown front.now start at.cell }
+fn first_unknown(question: &Question<'_>, front: &Front, at: Reached, dead: &Marks) -> Option<Cell>
+    requires at_on { IsOnGround question.now.grid.now.size at.cell }
+    requires free { is_free_in (field_in question.now) question.now.start at.cell ≡ true }
+    requires front { IsFront (field_in question.now) question.now.start front.now }
+    requires unknown { IsUnknown front.now question.now.start at.cell }
     requires cost { at.cost ≡ left_of front.now at.cell }
-    ensures { IsFirstTight (field_of_grid grid.now) start (floor_of front.now start) (marked_in dead.now) at.cell 8 result }
+    ensures { IsFirstTight (field_in question.now) question.now.start (floor_of front.now question.now.start) (marked_in dead.now) at.cell 8 result }
 {
-    let moves = moves_from(grid, start, at.cell);
+    let moves = moves_from(question.grid, question.start, at.cell);
     let away = away_from(at.cell, front.aim.goal);
     for which in 0..8u8 {
         if away >> which & 1 == 1 {
-            if let Some(from) = near_step(grid, start, at, moves, which, dead) {
+            let back = StepBack {
+                question: &*question,
+                at,
+                moves,
+                which,
+            };
+            if let Some(from) = near_step(&back, dead) {
                 return Some(from);
             }
         }
@@ -126,12 +124,12 @@ impl<'a> Descent for Front<'a> {
         self.floor(start, end) / 10 + 48
     }
 
-    fn first_tight(self, grid: &Grid, start: Cell, at: Cell, dead: &Marks) -> Option<Cell> {
+    fn first_tight(self, question: &Question<'_>, at: Cell, dead: &Marks) -> Option<Cell> {
         let cost = left_at(&self, at);
-        if is_unknown(&self, start, at, cost) {
-            return first_unknown(grid, &self, start, Reached { cell: at, cost }, dead);
+        if is_unknown(&self, question.start, at, cost) {
+            return first_unknown(question, &self, Reached { cell: at, cost }, dead);
         }
-        let cost = self.floor(start, at);
-        first_known(grid, self, start, Reached { cell: at, cost }, dead)
+        let cost = self.floor(question.start, at);
+        first_known(question, self, Reached { cell: at, cost }, dead)
     }
 }

@@ -5,8 +5,9 @@
 //!
 //! - `end`, `reached`, `trail`: where a way ends, and the cells back from there to the start.
 //! - `nearest`: the reached cells that are nearest to a goal.
-//! - `straight`, `marks`, `unmarked`: ways that cost no more than the octile distance, found with no search.
-//! - `floor`, `tight`: ways that cost no more than it is known that they must, found back from their end.
+//! - `question`: what a search is asked.
+//! - `floor`, `tight`, `step_back`, `marks`, `unmarked`: ways that cost no more than it is known that they must, found back from their end.
+//! - `straight`: what the octile distance tells of that, so that a straight way is found with no search.
 //! - `front`, `away`, `milestone`: what a search knows of that to a far goal, so that the way is found before all cells are searched that
 //!   cost as much.
 //! - `slope`, `live`, `stand`: what distances to a goal tell of it, so that the way is found with no search, and a winding one with no dead ends.
@@ -31,10 +32,12 @@ mod live;
 mod marks;
 mod milestone;
 mod nearest;
+mod question;
 mod reached;
 mod remembered;
 mod slope;
 mod stand;
+mod step_back;
 mod straight;
 mod tight;
 mod trail;

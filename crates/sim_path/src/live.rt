@@ -2,18 +2,20 @@
 //! falls by just what they cost leads to the cells of all shortest ways, and these are marked as live. So a walk back from the goal
 //! over live cells comes to the start.
 
-ghost use Rattle.{sim_base.specs.Steps.IsOnGround, sim_base.specs.declared.place.Cell.Cell, sim_grid.specs.Grids.field_of_grid};
+ghost use Rattle.{sim_base.specs.Steps.IsOnGround, sim_base.specs.declared.place.Cell.Cell, sim_path.specs.Questions.field_in};
 ghost use Rattle.std.specs.Prelude.{◌≡◌, ◌*◌, ◌<◌, true, false, IfOk, OnOk, Some, None, Contains};
 ghost use Rattle.sim_search.specs.Distances.{number_in, size_about};
-ghost use Rattle.sim_path.specs.{Floors.IsSlope, Floors.slope_of, MarkTables.IsNoneMarked, MarkTables.marked_in, MarkTables.size_of_marks, Stands.IsStand};
+ghost use Rattle.sim_path.specs.{Floors.IsSlope, Floors.slope_of, MarkTables.IsNoneMarked, MarkTables.marked_in, MarkTables.size_of_marks};
+ghost use Rattle.sim_path.specs.Stands.{IsStand, IsToldOf, LooksBack};
 ghost use Rattle.sim_path.specs.Live.{AreLive, AreLiveBut, is_dead, IsFall, IsSpread, IsSpreadFrom, twice};
 ghost use Rattle.sim_path.specs.Straight.{IsFirstTight, IsTightStep, IsTightTrail};
 
 use crate::marks::Marks;
+use crate::question::Question;
 use crate::slope::Slope;
 use crate::stand::Stand;
 use sim_base::{Cell, OutOfMemory};
-use sim_grid::{Grid, Spot};
+use sim_grid::Spot;
 use sim_search::{Distances, Guide, Toward, is_free, moves_from, step_beside, step_cost};
 
 // As many cells as a ground has at most.
@@ -22,20 +24,19 @@ const MOST_CELLS: u32 = 65_536;
 // The cell in a direction, if the distance falls by just what the step to it costs.
 #[inline(always)]
 fn falling_step(
-    grid: &Grid,
+    question: &Question<'_>,
     distances: &Distances,
-    start: Cell,
     at: Stand,
     which: u8,
 ) -> Option<Cell>
     requires which_in { which < 8 }
-    requires at { IsStand (field_of_grid grid.now) start (twice (number_in distances.now)) at }
-    requires size { size_about distances.now ≡ grid.now.size }
-    ensures none { result ≡ None → (b : Cell) → IsFall (field_of_grid grid.now) start (number_in distances.now) at.spot.cell b which → ⊥ }
-    ensures some { (b : Cell) → result ≡ Some b → IsOnGround grid.now.size b }
-    ensures only { (a b : Cell) → result ≡ Some a → IsFall (field_of_grid grid.now) start (number_in distances.now) at.spot.cell b which → a ≡ b }
+    requires at { IsStand (field_in question.now) question.now.start (twice (number_in distances.now)) at }
+    requires size { size_about distances.now ≡ question.now.grid.now.size }
+    ensures none { result ≡ None → (b : Cell) → IsFall (field_in question.now) question.now.start (number_in distances.now) at.spot.cell b which → ⊥ }
+    ensures some { (b : Cell) → result ≡ Some b → IsOnGround question.now.grid.now.size b }
+    ensures only { (a b : Cell) → result ≡ Some a → IsFall (field_in question.now) question.now.start (number_in distances.now) at.spot.cell b which → a ≡ b }
 {
-    let to = step_beside(grid, start, at.spot, at.moves, which)?;
+    let to = step_beside(question.grid, question.start, at.spot, at.moves, which)?;
     let left = 2 * u32::from(distances.at_spot(to));
     if left + step_cost(which) == at.cost {
         Some(to.cell)
@@ -61,28 +62,26 @@ fn mark(live: &mut Marks, list: &mut Vec<Cell>, cell: Cell) -> Result<(), OutOfM
 
 // Marks the cells to which the distance falls from this one, and lists those that were not marked.
 fn mark_from(
-    grid: &Grid,
+    question: &Question<'_>,
     distances: &Distances,
     live: &mut Marks,
     list: &mut Vec<Cell>,
-    start: Cell,
     cell: Cell,
 ) -> Result<(), OutOfMemory>
-    requires start_on { IsOnGround grid.now.size start }
-    requires cell_on { IsOnGround grid.now.size cell }
-    requires marks { size_of_marks live.old ≡ grid.now.size }
-    requires size { size_about distances.now ≡ grid.now.size }
-    requires on { (c : Cell) → Contains list.old.items c → IsOnGround grid.now.size c }
-    ensures { OnOk result (IsSpreadFrom (field_of_grid grid.now) start (number_in distances.now) live.old live.new list.old.items list.new.items 8 cell) }
+    requires cell { IsToldOf question.now.grid.now.size distances.now cell }
+    requires marks { size_of_marks live.old ≡ question.now.grid.now.size }
+    requires on { (c : Cell) → Contains list.old.items c → IsOnGround question.now.grid.now.size c }
+    ensures { OnOk result (IsSpreadFrom (field_in question.now) question.now.start (number_in distances.now) live.old live.new list.old.items
+        list.new.items 8 cell) }
 {
-    let place = grid.place(cell);
+    let place = question.grid.place(cell);
     let at = Stand {
         spot: Spot { cell, place },
-        moves: moves_from(grid, start, cell),
+        moves: moves_from(question.grid, question.start, cell),
         cost: Toward { distances }.estimate(cell),
     };
     for which in 0..8u8 {
-        if let Some(to) = falling_step(grid, distances, start, at, which) {
+        if let Some(to) = falling_step(question, distances, at, which) {
             mark(live, list, to)?;
         }
     }
@@ -91,25 +90,23 @@ fn mark_from(
 
 // Marks the cells of all shortest ways from the start on, and says whether there are no more than a ground has.
 fn mark_all(
-    grid: &Grid,
+    question: &Question<'_>,
     distances: &Distances,
     live: &mut Marks,
     list: &mut Vec<Cell>,
-    start: Cell,
 ) -> Result<bool, OutOfMemory>
-    requires start_on { IsOnGround grid.now.size start }
-    requires none { IsNoneMarked grid.now.size live.old }
-    requires size { size_about distances.now ≡ grid.now.size }
-    ensures { IfOk result (λ all. all ≡ true → AreLive (field_of_grid grid.now) start (number_in distances.now) (marked_in live.new)) }
+    requires none { IsNoneMarked question.now.grid.now.size live.old }
+    requires size { size_about distances.now ≡ question.now.grid.now.size }
+    ensures { IfOk result (λ all. all ≡ true → AreLive (field_in question.now) question.now.start (number_in distances.now) (marked_in live.new)) }
 {
     list.clear();
-    live.set(start);
-    list.push(start)?;
+    live.set(question.start);
+    list.push(question.start)?;
     for _ in 0..MOST_CELLS {
         let Some(at) = list.pop() else {
             return Ok(true);
         };
-        mark_from(grid, distances, live, list, start, at)?;
+        mark_from(question, distances, live, list, at)?;
     }
     Ok(false)
 }
@@ -117,21 +114,18 @@ fn mark_all(
 // The cell in a direction, if it is live and a step from there makes up what the way costs up to this one.
 #[inline(always)]
 fn live_step(
-    grid: &Grid,
+    question: &Question<'_>,
     slope: &Slope<'_>,
     live: &Marks,
-    start: Cell,
     at: Stand,
     which: u8,
 ) -> Option<Cell>
-    requires which_in { which < 8 }
-    requires at { IsStand (field_of_grid grid.now) start (slope_of slope.now) at }
-    requires size { size_about slope.now.distances.now ≡ grid.now.size }
-    ensures none { result ≡ None → (p : Cell) → IsTightStep (field_of_grid grid.now) start (slope_of slope.now) at.spot.cell p which
+    requires { LooksBack question.now slope.now at which }
+    ensures none { result ≡ None → (p : Cell) → IsTightStep (field_in question.now) question.now.start (slope_of slope.now) at.spot.cell p which
         → is_dead live.now p ≡ true }
-    ensures some { (p : Cell) → result ≡ Some p → IsTightStep (field_of_grid grid.now) start (slope_of slope.now) at.spot.cell p which }
+    ensures some { (p : Cell) → result ≡ Some p → IsTightStep (field_in question.now) question.now.start (slope_of slope.now) at.spot.cell p which }
 {
-    let from = step_beside(grid, start, at.spot, at.moves, which)?;
+    let from = step_beside(question.grid, question.start, at.spot, at.moves, which)?;
     let cost = at.cost.checked_sub(step_cost(which))?;
     if slope.left_at(from) == cost && live.at(from.cell) {
         Some(from.cell)
@@ -141,20 +135,18 @@ fn live_step(
 }
 
 // The first such cell in the order of the directions.
-fn first_live(grid: &Grid, slope: &Slope<'_>, live: &Marks, start: Cell, cell: Cell) -> Option<Cell>
-    requires start_on { IsOnGround grid.now.size start }
-    requires cell_on { IsOnGround grid.now.size cell }
-    requires size { size_about slope.now.distances.now ≡ grid.now.size }
-    ensures { IsFirstTight (field_of_grid grid.now) start (slope_of slope.now) (is_dead live.now) cell 8 result }
+fn first_live(question: &Question<'_>, slope: &Slope<'_>, live: &Marks, cell: Cell) -> Option<Cell>
+    requires { IsToldOf question.now.grid.now.size slope.now.distances.now cell }
+    ensures { IsFirstTight (field_in question.now) question.now.start (slope_of slope.now) (is_dead live.now) cell 8 result }
 {
-    let place = grid.place(cell);
+    let place = question.grid.place(cell);
     let at = Stand {
         spot: Spot { cell, place },
-        moves: moves_from(grid, start, cell),
+        moves: moves_from(question.grid, question.start, cell),
         cost: slope.left(cell),
     };
     for which in 0..8u8 {
-        if let Some(from) = live_step(grid, slope, live, start, at, which) {
+        if let Some(from) = live_step(question, slope, live, at, which) {
             return Some(from);
         }
     }
@@ -164,21 +156,19 @@ fn first_live(grid: &Grid, slope: &Slope<'_>, live: &Marks, start: Cell, cell: C
 // Whether a walk back from the goal over live cells comes to the start. If so, the trail is made of its cells, without the start. False says
 // nothing.
 fn live_trail(
-    grid: &Grid,
+    question: &Question<'_>,
     slope: &Slope<'_>,
     live: &Marks,
     trail: &mut Vec<Cell>,
-    start: Cell,
-    goal: Cell,
 ) -> Result<bool, OutOfMemory>
-    requires start { IsOnGround grid.now.size start }
-    requires goal { IsOnGround grid.now.size goal }
-    requires slope { IsSlope (field_of_grid grid.now) start slope.now }
-    requires live { AreLive (field_of_grid grid.now) start (number_in slope.now.distances.now) (marked_in live.now) }
-    ensures { IfOk result (λ found. found ≡ true → IsTightTrail (field_of_grid grid.now) start (slope_of slope.now) goal trail.new.items) }
+    requires slope { IsSlope (field_in question.now) question.now.start slope.now }
+    requires live { AreLive (field_in question.now) question.now.start (number_in slope.now.distances.now) (marked_in live.now) }
+    ensures { IfOk result (λ found. found ≡ true → IsTightTrail (field_in question.now) question.now.start (slope_of slope.now) question.now.goal
+        trail.new.items) }
 {
     trail.clear();
-    if !is_free(grid, start, goal) {
+    let (start, goal) = (question.start, question.goal);
+    if !is_free(question.grid, start, goal) {
         return Ok(false);
     }
     let mut at = goal;
@@ -186,7 +176,7 @@ fn live_trail(
         if at == start {
             return Ok(true);
         }
-        let Some(from) = first_live(grid, slope, live, start, at) else {
+        let Some(from) = first_live(question, slope, live, at) else {
             return Ok(false);
         };
         trail.push(at)?;
@@ -199,21 +189,18 @@ fn live_trail(
 /// says nothing.
 #[inline(never)]
 pub fn live_to(
-    grid: &Grid,
+    question: &Question<'_>,
     slope: &Slope<'_>,
     live: &mut Marks,
     trail: &mut Vec<Cell>,
-    start: Cell,
-    goal: Cell,
 ) -> Result<bool, OutOfMemory>
-    requires start { IsOnGround grid.now.size start }
-    requires goal { IsOnGround grid.now.size goal }
-    requires slope { IsSlope (field_of_grid grid.now) start slope.now }
-    requires live { IsNoneMarked grid.now.size live.old }
-    ensures { IfOk result (λ found. found ≡ true → IsTightTrail (field_of_grid grid.now) start (slope_of slope.now) goal trail.new.items) }
+    requires slope { IsSlope (field_in question.now) question.now.start slope.now }
+    requires live { IsNoneMarked question.now.grid.now.size live.old }
+    ensures { IfOk result (λ found. found ≡ true → IsTightTrail (field_in question.now) question.now.start (slope_of slope.now) question.now.goal
+        trail.new.items) }
 {
-    if mark_all(grid, slope.distances, live, trail, start)? {
-        live_trail(grid, slope, live, trail, start, goal)
+    if mark_all(question, slope.distances, live, trail)? {
+        live_trail(question, slope, live, trail)
     } else {
         Ok(false)
     }

@@ -2,8 +2,9 @@
 
 ghost use Rattle.std.specs.Prelude.{◌<◌};
 
+use crate::question::Question;
 use sim_base::Cell;
-use sim_grid::{Grid, octile};
+use sim_grid::octile;
 
 // From which octile distance on a goal is far: a hundred straight steps.
 const FAR: u32 = 1_000;
@@ -23,8 +24,9 @@ fn between(from: u16, to: u16, steps: u32, all: u32) -> u16
 }
 
 /// An open cell on the straight line to a goal that is far and can be reached.
-pub fn milestone(grid: &Grid, from: Cell, to: Cell, near: u32) -> Option<Cell> {
-    if near != 0 || octile(from, to) < FAR {
+pub fn milestone(question: &Question<'_>) -> Option<Cell> {
+    let (grid, from, to) = (question.grid, question.start, question.goal);
+    if question.near != 0 || octile(from, to) < FAR {
         return None;
     }
     let all = u32::from(from.x.abs_diff(to.x).max(from.z.abs_diff(to.z)));

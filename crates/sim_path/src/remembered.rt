@@ -5,6 +5,7 @@ ghost use Rattle.std.specs.Prelude.{◌≡◌, ◌<◌, vec_len, IfSome, All};
 ghost use Rattle.sim_path.specs.{Atlases.ground_in, Remembering.IsRight};
 
 use crate::kept::KeptCells;
+use crate::question::Question;
 use crate::trip::Trip;
 use sim_base::{Cell, MAX_WAYPOINTS, OutOfMemory};
 use sim_grid::Grid;
@@ -38,7 +39,7 @@ pub struct Remembered {
 
 impl Remembered {
     ghost use Rattle.std.specs.Prelude.{◌≡◌, true, IfOk, IfSome};
-    ghost use Rattle.{sim_grid.specs.Grids.field_of_grid, sim_path.specs.Remembering.AreFirst};
+    ghost use Rattle.{sim_grid.specs.Grids.field_of_grid, sim_path.specs.Questions.IsKnown, sim_path.specs.Remembering.AreFirst};
 
     /// None yet, of this ground.
     pub fn of(alloc: Global, grid: &Grid) -> Result<Remembered, OutOfMemory>
@@ -61,11 +62,12 @@ impl Remembered {
     }
 
     /// The way between two cells, if it is remembered and of this ground. The ground is compared only where it is.
-    pub fn trip(&self, grid: &Grid, from: Cell, to: Cell) -> Option<Trip<'_>>
-        ensures { IfSome result (λ trip. ∥ AreFirst (field_of_grid grid.now) from to trip.cells.now trip.whole ∥₁) }
+    pub fn trip(&self, question: &Question<'_>) -> Option<Trip<'_>>
+        ensures { IfSome result (λ trip. IsKnown question.now trip.cells.now trip.whole) }
     {
+        let (from, to) = (question.start, question.goal);
         let kept = self.places[place_of(from, to)]?;
-        if kept.from == from && kept.to == to && self.over.are_of(grid) {
+        if kept.from == from && kept.to == to && self.over.are_of(question.grid) {
             Some(Trip {
                 cells: &self.cells[kept.begin..kept.end],
                 whole: kept.whole,

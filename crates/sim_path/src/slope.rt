@@ -2,16 +2,17 @@
 //! walk costs to each cell of a shortest way.
 
 ghost use Rattle.sim_base.specs.{Steps.IsOnGround, Steps.octile as octile_of, declared.place.Cell.Cell};
-ghost use Rattle.sim_grid.specs.{Grids.field_of_grid, Spots.IsSpot};
-ghost use Rattle.sim_path.specs.{Floors.slope_of, MarkTables.marked_in, Stands.IsStand, Straight.IsFirstTight, Straight.IsTight, Straight.IsTightStep};
+ghost use Rattle.{sim_grid.specs.Spots.IsSpot, sim_path.specs.Questions.field_in};
+ghost use Rattle.sim_path.specs.{Floors.slope_of, MarkTables.marked_in, Stands.IsToldOf, Stands.LooksBack, Straight.IsFirstTight, Straight.IsTight, Straight.IsTightStep};
 ghost use Rattle.sim_search.specs.Distances.{number_in, size_about};
 ghost use Rattle.std.specs.Prelude.{◌*◌, ◌+◌, ◌<◌, ◌↔◌, ◌≡◌, ◌≢◌, ◌≤◌, false, IsTrue, None, Some, true};
 
 use crate::floor::{Descent, Floor};
 use crate::marks::Marks;
+use crate::question::Question;
 use crate::stand::Stand;
 use sim_base::Cell;
-use sim_grid::{Grid, Spot, octile};
+use sim_grid::{Spot, octile};
 use sim_search::{Distances, Guide, Toward, moves_from, step_beside, step_cost};
 
 /// The distances to a goal, and what a way there costs from a start.
@@ -81,21 +82,19 @@ fn makes_up(slope: &Slope<'_>, start: Cell, cell: Cell, cost: u32, dead: &Marks)
 // isn't dead.
 #[inline(always)]
 fn slope_step(
-    grid: &Grid,
+    question: &Question<'_>,
     slope: &Slope<'_>,
-    start: Cell,
     at: Stand,
     which: u8,
     dead: &Marks,
 ) -> Option<Cell>
-    requires which_in { which < 8 }
-    requires at { IsStand (field_of_grid grid.now) start (slope_of slope.now) at }
-    requires size { size_about slope.now.distances.now ≡ grid.now.size }
-    ensures none { result ≡ None → (p : Cell) → IsTightStep (field_of_grid grid.now) start (slope_of slope.now) at.spot.cell p which
-        → IsTight (field_of_grid grid.now) start (slope_of slope.now) p → marked_in dead.now p ≡ true }
-    ensures some { (p : Cell) → result ≡ Some p → IsTightStep (field_of_grid grid.now) start (slope_of slope.now) at.spot.cell p which }
+    requires { LooksBack question.now slope.now at which }
+    ensures none { result ≡ None → (p : Cell) → IsTightStep (field_in question.now) question.now.start (slope_of slope.now) at.spot.cell p which
+        → IsTight (field_in question.now) question.now.start (slope_of slope.now) p → marked_in dead.now p ≡ true }
+    ensures some { (p : Cell) → result ≡ Some p → IsTightStep (field_in question.now) question.now.start (slope_of slope.now) at.spot.cell p which }
 {
-    let from = step_beside(grid, start, at.spot, at.moves, which)?;
+    let start = question.start;
+    let from = step_beside(question.grid, start, at.spot, at.moves, which)?;
     let step = step_cost(which);
     if falls_short(slope, from, step, at.cost) {
         return None;
@@ -110,25 +109,22 @@ fn slope_step(
 
 // The first such cell in the order of the directions.
 fn first_descent(
-    grid: &Grid,
+    question: &Question<'_>,
     slope: &Slope<'_>,
-    start: Cell,
     cell: Cell,
     dead: &Marks,
 ) -> Option<Cell>
-    requires start_on { IsOnGround grid.now.size start }
-    requires cell_on { IsOnGround grid.now.size cell }
-    requires size { size_about slope.now.distances.now ≡ grid.now.size }
-    ensures { IsFirstTight (field_of_grid grid.now) start (slope_of slope.now) (marked_in dead.now) cell 8 result }
+    requires { IsToldOf question.now.grid.now.size slope.now.distances.now cell }
+    ensures { IsFirstTight (field_in question.now) question.now.start (slope_of slope.now) (marked_in dead.now) cell 8 result }
 {
-    let place = grid.place(cell);
+    let place = question.grid.place(cell);
     let at = Stand {
         spot: Spot { cell, place },
-        moves: moves_from(grid, start, cell),
+        moves: moves_from(question.grid, question.start, cell),
         cost: slope.left(cell),
     };
     for which in 0..8u8 {
-        if let Some(from) = slope_step(grid, slope, start, at, which, dead) {
+        if let Some(from) = slope_step(question, slope, at, which, dead) {
             return Some(from);
         }
     }
@@ -164,7 +160,7 @@ impl<'a> Descent for Slope<'a> {
         }
     }
 
-    fn first_tight(self, grid: &Grid, start: Cell, at: Cell, dead: &Marks) -> Option<Cell> {
-        first_descent(grid, &self, start, at, dead)
+    fn first_tight(self, question: &Question<'_>, at: Cell, dead: &Marks) -> Option<Cell> {
+        first_descent(question, &self, at, dead)
     }
 }

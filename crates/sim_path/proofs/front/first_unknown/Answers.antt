@@ -5,8 +5,8 @@ use Rattle.sim_path.proofs.front.first_unknown.Goals as goal
 
 pub returns-in-Some : goal.returns-in-Some
 returns-in-Some c =
-    let field = field_of_grid c.args.grid.now in
-    let start = c.args.start in
+    let field = field_of_grid c.args.question.now.grid.now in
+    let start = c.args.question.now.start in
     let front = c.args.front.now in
     let at = c.args.at in
     let which = c.loop-which.which in
@@ -23,8 +23,8 @@ returns-in-Some c =
 
 pub loop-which-preserved : goal.loop-which-preserved
 loop-which-preserved c =
-    let field = field_of_grid c.args.grid.now in
-    let start = c.args.start in
+    let field = field_of_grid c.args.question.now.grid.now in
+    let start = c.args.question.now.start in
     let front = c.args.front.now in
     let at = c.args.at in
     let which = c.loop-which.which in

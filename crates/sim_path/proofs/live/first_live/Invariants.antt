@@ -2,5 +2,5 @@ use Rattle.sim_path.proofs.Common.{◌≡◌, ℕ, ◌<◌, true, Cell, field_of
 use Rattle.sim_path.specs.{Floors.slope_of, Live.is_dead}
 
 abbrev pub invariant-loop-which : Rattle.sim_path.proofs.live.first_live.Given.invariant-loop-which
-invariant-loop-which l = (j : ℕ) (p : Cell) → j < l.which → IsTightStep (field_of_grid l.grid) l.start (slope_of l.slope) l.fn.cell p j
+invariant-loop-which l = (j : ℕ) (p : Cell) → j < l.which → IsTightStep (field_of_grid l.question.grid.now) l.question.start (slope_of l.slope) l.fn.cell p j
     → is_dead l.live p ≡ true

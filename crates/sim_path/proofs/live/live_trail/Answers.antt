@@ -6,35 +6,39 @@ use Rattle.sim_path.proofs.live.live_trail.Goals as goal
 
 pub loop-init : goal.loop-init
 loop-init c =
-    let field = field_of_grid c.args.grid.now in
+    let question = c.args.question.now in
+    let field = field_of_grid question.grid.now in
     let slope = c.args.slope.now in
-    let free : is_free field c.args.start c.args.goal ≡ true = search rules in
-    let dead = live-dead field c.args.start slope c.requires.start c.requires.slope (marked_in c.args.live.now) c.requires.live in
-    subst (λ (t : List Cell). IsAt field c.args.start (slope_of slope) c.args.goal t (is_dead c.args.live.now) c.args.goal) (sym c.clear.ensures.items)
-    (live-begins field c.args.start (slope_of slope) c.args.goal (is_dead c.args.live.now) dead (record { on = c.requires.goal; free = free }))
+    let free : is_free field question.start question.goal ≡ true = search rules in
+    let dead = live-dead field question.start slope question.start_on c.requires.slope (marked_in c.args.live.now) c.requires.live in
+    subst (λ (t : List Cell). IsAt field question.start (slope_of slope) question.goal t (is_dead c.args.live.now) question.goal) (sym c.clear.ensures.items)
+    (live-begins field question.start (slope_of slope) question.goal (is_dead c.args.live.now) dead (record { on = question.goal_on; free = free }))
 
 pub returns-then-eq : goal.returns-then-eq
 returns-then-eq c =
-    let field = field_of_grid c.args.grid.now in
+    let question = c.args.question.now in
+    let field = field_of_grid question.grid.now in
     let slope = c.args.slope.now in
-    λ e. chain-done field c.args.start (slope_of slope) c.requires.start (slope-floor field c.args.start slope c.requires.slope) c.args.goal c.loop.at
-    c.loop.trail.items c.loop.invariant.chain (same_cell-true c.loop.at c.args.start (sym c.eq.ensures ∙ c.if-eq.true))
+    λ e. chain-done field question.start (slope_of slope) question.start_on (slope-floor field question.start slope c.requires.slope) question.goal c.loop.at
+    c.loop.trail.items c.loop.invariant.chain (same_cell-true c.loop.at question.start (sym c.eq.ensures ∙ c.if-eq.true))
 
 not_same : (c e : Cell) → same_cell c e ≡ false → c ≢ e
 not_same c e h f = true≢false (sym (same_cell-self c) ∙ ap (same_cell c) f ∙ h)
 
 pub loop-preserved : goal.loop-preserved
 loop-preserved c =
-    let field = field_of_grid c.args.grid.now in
-    let start = c.args.start in
+    let question = c.args.question.now in
+    let field = field_of_grid question.grid.now in
+    let start = question.start in
     let slope = c.args.slope.now in
     let at = c.loop.at in
     let dead = is_dead c.args.live.now in
     let other : at ≢ start = not_same at start (sym c.eq.ensures ∙ c.if-eq.false) in
     let from = c.in-Some.from in
-    let further = at-further field start (slope_of slope) c.requires.start (slope-floor field start slope c.requires.slope) c.args.goal c.loop.trail.items dead
+    let further = at-further field start (slope_of slope) question.start_on (slope-floor field start slope c.requires.slope) question.goal c.loop.trail.items
+    dead
     at from other c.loop.invariant (subst (λ (o : Option Cell). IsFirstTight field start (slope_of slope) dead at 8 o) c.in-Some.is c.first_live.ensures) in
-    subst (λ (t : List Cell). IsAt field start (slope_of slope) c.args.goal t dead from) (sym c.in_ok-push.ensures.items) further
+    subst (λ (t : List Cell). IsAt field start (slope_of slope) question.goal t dead from) (sym c.in_ok-push.ensures.items) further
 
-pub first_live-requires-clause-size : goal.first_live-requires-clause-size
-first_live-requires-clause-size c = c.requires.slope.size_is
+pub first_live-requires : goal.first_live-requires
+first_live-requires c = record { cell_on = c.loop.invariant.free.on; size = c.requires.slope.size_is }

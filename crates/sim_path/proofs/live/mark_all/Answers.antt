@@ -4,17 +4,20 @@ use Rattle.sim_path.proofs.live.mark_all.Goals as goal
 
 pub loop-init : goal.loop-init
 loop-init c =
-    let field = field_of_grid c.args.grid.now in
+    let field = field_of_grid c.args.question.now.grid.now in
     let number = number_in c.args.distances.now in
-    subst (λ (l : List Cell). AreLiveBut field c.args.start number c.set.new.self l)
-    (sym (c.in_ok-push.ensures.items ∙ ap (λ (l : List Cell). l ++ c.args.start ∷ []) c.clear.ensures.items))
-    (live-first field c.args.start number c.args.live.now c.set.new.self c.requires.none c.set.ensures c.requires.start_on)
+    subst (λ (l : List Cell). AreLiveBut field c.args.question.now.start number c.set.new.self l)
+    (sym (c.in_ok-push.ensures.items ∙ ap (λ (l : List Cell). l ++ c.args.question.now.start ∷ []) c.clear.ensures.items))
+    (live-first field c.args.question.now.start number c.args.live.now c.set.new.self c.requires.none c.set.ensures c.args.question.now.start_on)
 
-pub mark_from-requires-clause-cell_on : goal.mark_from-requires-clause-cell_on
-mark_from-requires-clause-cell_on c =
+pub mark_from-requires-clause-cell : goal.mark_from-requires-clause-cell
+mark_from-requires-clause-cell c =
     let at = c.in-Some.at in
     let rest = c.pop.new.self.items in
-    c.loop.invariant.on at (subst (λ (l : List Cell). Contains l at) (sym c.in-Some.ensures.items) (Contains-push rest at))
+    record {
+      cell_on = c.loop.invariant.on at (subst (λ (l : List Cell). Contains l at) (sym c.in-Some.ensures.items) (Contains-push rest at));
+      size = c.requires.size;
+    }
 
 pub mark_from-requires-clause-on : goal.mark_from-requires-clause-on
 mark_from-requires-clause-on c =
@@ -24,9 +27,10 @@ mark_from-requires-clause-on c =
 
 pub loop-preserved : goal.loop-preserved
 loop-preserved c =
-    let field = field_of_grid c.args.grid.now in
+    let question = c.args.question.now in
+    let field = field_of_grid question.grid.now in
     let number = number_in c.args.distances.now in
     let at = c.in-Some.at in
     let rest = c.pop.new.self.items in
-    live-more field c.args.start number c.loop.live c.mark_from.new.live rest c.mark_from.new.list.items at
-    (subst (λ (l : List Cell). AreLiveBut field c.args.start number c.loop.live l) c.in-Some.ensures.items c.loop.invariant) c.in_ok-mark_from.ensures
+    live-more field question.start number c.loop.live c.mark_from.new.live rest c.mark_from.new.list.items at
+    (subst (λ (l : List Cell). AreLiveBut field question.start number c.loop.live l) c.in-Some.ensures.items c.loop.invariant) c.in_ok-mark_from.ensures

@@ -8,8 +8,8 @@ mark-requires-clause-on c = λ v h. subst (λ (s : Size). IsOnGround s v) (sym c
 
 pub loop-which-preserved : goal.loop-which-preserved
 loop-which-preserved c =
-    let field = field_of_grid c.args.grid.now in
-    let start = c.args.start in
+    let field = field_of_grid c.args.question.now.grid.now in
+    let start = c.args.question.now.start in
     let number = number_in c.args.distances.now in
     let old = c.args.live.now in
     let first = c.args.list.now.items in
@@ -29,4 +29,4 @@ loop-which-preserved c =
 
 pub falling_step-requires-clause-at : goal.falling_step-requires-clause-at
 falling_step-requires-clause-at c =
-    record { spot = record { on = c.requires.cell_on; place_is = c.place-place.ensures }; moves = c.moves_from.ensures; cost_is = c.estimate.ensures.is }
+    record { spot = record { on = c.requires.cell.cell_on; place_is = c.place-place.ensures }; moves = c.moves_from.ensures; cost_is = c.estimate.ensures.is }

@@ -4,26 +4,25 @@ use Rattle.sim_path.proofs.tight.tight_to.Goals as goal
 
 pub returns-in-Some : goal.returns-in-Some
 returns-in-Some g c =
-    let field = field_of_grid c.args.grid.now in
-    let start = c.args.start in
+    let question = c.args.question.now in
+    let field = field_of_grid question.grid.now in
+    let start = question.start in
     let floor = g.F.Floor.floor_of c.args.floor start in
-    let goal = c.args.goal in
+    let goal = question.goal in
     let end = c.in-Some.end in
     let trail = c.tight_trail.new.trail.items in
-    let best = subst (λ (o : Option Reached). IsBestOf (floor_cost floor) goal c.args.ends.now o) c.in-Some.is c.tight_end.ensures in
+    let best = subst (λ (o : Option Reached). IsBestOf (floor_cost floor) goal question.ends.now o) c.in-Some.is c.tight_end.ensures in
     if_ok c.tight_trail.result (λ (b : Bool). b ≡ true → IsTightTrail field start floor end.cell trail)
     (λ (b : Bool). b ≡ true → IsTrailToEnd field start goal trail)
     (λ b found e.
     let h = found e in
     record {
       end = record { cell = end.cell; cost = floor end.cell };
-      is_end = tight-end field start floor c.requires.start (g.met.F.Floor.is_least field start c.args.floor c.requires.floor) goal c.args.near c.args.ends.now end c.requires.ends best.0 best.1 h.tight;
+      is_end = tight-end field start floor question.start_on (g.met.F.Floor.is_least field start c.args.floor c.requires.floor) goal question.near
+          question.ends.now end c.requires.ends best.0 best.1 h.tight;
       is_trail = h.is_trail;
     })
     c.tight_trail.ensures
-
-pub tight_trail-requires-clause-start : goal.tight_trail-requires-clause-start
-tight_trail-requires-clause-start g c = c.requires.start
 
 pub tight_trail-requires-clause-end : goal.tight_trail-requires-clause-end
 tight_trail-requires-clause-end g c = c.if-has.ensures.0 refl

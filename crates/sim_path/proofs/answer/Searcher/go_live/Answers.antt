@@ -1,33 +1,22 @@
 -- The way is read off the distances to the goal, which is the end.
-use Rattle.sim_path.proofs.Common.{◌*◌, ◌∙◌, ◌≡◌, ap, Bool, cell_of, field_of_grid, inside-on_ground, IsOnGround, IsTightTrail, IsTrailToEnd, subst, sym, true}
-use Rattle.sim_path.{proofs.Found.if_ok, proofs.LiveWays.goal-end, specs.Floors.IsSlope, specs.Floors.slope_of, specs.SlopeLaws.slope-floor}
-use Rattle.sim_search.specs.{Distances.AreDistances, Distances.number_in, Distances.size_about, declared.distances.Distances.Distances}
+use Rattle.sim_path.proofs.Common.{◌≡◌, Bool, field_of_grid, IsTightTrail, IsTrailToEnd, true}
+use Rattle.sim_path.{proofs.Found.if_ok, proofs.LiveWays.goal-end, specs.Floors.slope_of, specs.SlopeLaws.slope-floor}
+use Rattle.sim_path.proofs.answer.Searcher.go_live.Goals as goal
 
-pub returns : Rattle.sim_path.proofs.answer.Searcher.go_live.Goals.returns
+pub returns : goal.returns
 returns c =
-    let field = field_of_grid c.args.grid.now in
-    let start = c.cell_of-from.result in
-    let goal = c.cell_of-to.result in
-    let slope = c.of-slope.result in
+    let question = c.args.question.now in
+    let field = field_of_grid question.grid.now in
+    let slope = c.args.slope.now in
     let trail = c.live_to-found.new.trail.items in
-    let on : IsOnGround field.size start = rw c.cell_of-from.ensures.cell (inside-on_ground c.args.grid.now.size c.args.start.now c.requires.start) in
-    let kept = sym c.of-slope.ensures.distances in
-    let is : IsSlope field start slope = record {
-      goal = cell_of c.args.goal.now;
-      size_is = ap size_about c.of-slope.ensures.distances ∙ c.requires.size;
-      is_open = ap field.is_open c.cell_of-from.ensures.cell ∙ c.requires.is_open;
-      distances = subst (λ (d : Distances). AreDistances field (cell_of c.args.goal.now) (number_in d)) kept c.requires.distances;
-      whole = c.of-slope.ensures.whole ∙ ap (λ (d : Distances). 2 * number_in d start) kept;
-    } in
-    let floor = slope-floor field start slope is in
-    let found = if_ok c.live_to-found.result (λ (b : Bool). b ≡ true → IsTightTrail field start (slope_of slope) goal trail)
-    (λ (b : Bool). b ≡ true → IsTrailToEnd field start goal trail)
+    let floor = slope-floor field question.start slope c.requires in
+    if_ok c.live_to-found.result (λ (b : Bool). b ≡ true → IsTightTrail field question.start (slope_of slope) question.goal trail)
+    (λ (b : Bool). b ≡ true → IsTrailToEnd field question.start question.goal trail)
     (λ b found e.
     let h = found e in
     record {
-      end = record { cell = goal; cost = slope_of slope goal };
-      is_end = goal-end field start goal (slope_of slope) on floor h.tight;
+      end = record { cell = question.goal; cost = slope_of slope question.goal };
+      is_end = goal-end field question.start question.goal (slope_of slope) question.start_on floor h.tight;
       is_trail = h.is_trail;
     })
-    c.live_to-found.ensures in
-    rw (c.cell_of-from.ensures.cell, c.cell_of-to.ensures.cell) at found
+    c.live_to-found.ensures

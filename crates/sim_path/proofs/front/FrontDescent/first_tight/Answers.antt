@@ -3,9 +3,6 @@ use Rattle.sim_path.proofs.front.FrontDescent.first_tight.Goals as goal
 pub is_unknown-requires : goal.is_unknown-requires
 is_unknown-requires c = c.left_at-cost.ensures
 
-pub first_unknown-requires-clause-start_on : goal.first_unknown-requires-clause-start_on
-first_unknown-requires-clause-start_on c = c.requires.start_on
-
 pub first_unknown-requires-clause-at_on : goal.first_unknown-requires-clause-at_on
 first_unknown-requires-clause-at_on c = c.requires.at_on
 
@@ -23,9 +20,6 @@ first_unknown-requires-clause-cost c = c.left_at-cost.ensures
 
 pub returns-then-is_unknown : goal.returns-then-is_unknown
 returns-then-is_unknown c = c.first_unknown.ensures
-
-pub first_known-requires-clause-start_on : goal.first_known-requires-clause-start_on
-first_known-requires-clause-start_on c = c.requires.start_on
 
 pub first_known-requires-clause-at_on : goal.first_known-requires-clause-at_on
 first_known-requires-clause-at_on c = c.requires.at_on

@@ -1,0 +1,23 @@
+-- No walk costs less than the octile distance, since along a step it rises by at most what the step costs.
+use Rattle.sim_base.specs.{Steps.Field, Steps.IsStep, Steps.octile, declared.place.Cell.Cell}
+use Rattle.sim_path.specs.{Straight.octile_from, WalkFloors.IsFloor, declared.straight.Straight.Straight}
+use Rattle.sim_search.proofs.Octile.{beside_of, octile-near, octile-self, turned}
+use Rattle.std.proofs.Common.{ℕ, ◌+◌, ◌≤◌, arith}
+use Rattle.std.specs.Prelude.{⊤}
+
+pub octile-rises : (field : Field) (start a b : Cell) (k : ℕ) → IsStep field start a b k → octile b start ≤ octile a start + k
+octile-rises field start a b k s = omega (arith, octile-near start (turned (beside_of field start a b k s)))
+
+pub octile-floor : (field : Field) (start : Cell) → IsFloor field start (octile_from start)
+octile-floor field start = record { begins = octile-self start; rises = octile-rises field start }
+
+-- what a walk costs at least, by the octile distance alone
+abbrev pub straight_from : Straight → Cell → Cell → ℕ
+straight_from straight start = octile_from start
+
+-- nothing need be known of it
+abbrev pub IsStraight : Field → Cell → Straight → Type 0
+IsStraight field start straight = ⊤
+
+pub straight-floor : (field : Field) (start : Cell) (straight : Straight) → IsStraight field start straight → IsFloor field start (straight_from straight start)
+straight-floor field start straight is = octile-floor field start
