@@ -1,17 +1,14 @@
 //! The run with a handler for each kind of command and of deed, over any shelf and any sink. The program calls it with the real ones, and
 //! the tests with those in memory.
 
-ghost use Rattle.{sim_client.specs.StageWords.AreCleared, sim_orders.specs.Orders.IsGiven, sim_orders.specs.Orders.kind_of, sim_orders.specs.Orders.Obeys};
+ghost use Rattle.{sim_client.specs.StageWords.AreCleared, sim_orders.specs.Orders.Fulfils, sim_orders.specs.Orders.IsGiven, sim_orders.specs.Orders.kind_of};
 ghost use Rattle.{sim_system.specs.Meanings.HaveKinds, sim_system.specs.RigWords.systems_of, sim_top.specs.Answers.scene, sim_top.specs.Words.words_of};
 ghost use Rattle.std.specs.Prelude.{◌≡◌, length, IfOk, OnErr, All};
 ghost use Rattle.sim_edge.specs.Run.{Ran};
 
 use crate::deeds::{bartered, tributed};
-use sim_base::{Changes, Command, OutOfMemory, Setup, State};
-use sim_orders::{
-    Handler, Help, OrderTable, Planner, attack_changes, delete_changes, place_changes,
-    resign_changes, stop_changes, train_changes, walk_changes,
-};
+use sim_base::{Changes, OutOfMemory};
+use sim_orders::{Handler, OrderTable, Planner, Task};
 use sim_stock::{DeedFunction, DeedHandler, DeedTable};
 use sim_store::{Shelf, Sink};
 use sim_system::{Rig, System};
@@ -19,26 +16,11 @@ use sim_top::{Status, run};
 use std::alloc::Global;
 
 /// The changes that the planner of the command's kind makes.
-pub fn planned(
-    alloc: Global,
-    setup: &Setup,
-    state: &State,
-    help: &Help,
-    player: u8,
-    command: &Command,
-) -> Result<Changes, OutOfMemory>
-    requires { IsGiven (kind_of command.now) setup.now state.now help.now player command.now }
-    ensures { Obeys setup.now state.now player command.now result }
+pub fn planned(alloc: Global, task: &Task<'_>) -> Result<Changes, OutOfMemory>
+    requires { IsGiven (kind_of task.now.command.now) task.now }
+    ensures { Fulfils task.now result }
 {
-    match command {
-        Command::Walk { .. } => walk_changes(alloc, setup, state, help, player, command),
-        Command::Stop { .. } => stop_changes(alloc, setup, state, help, player, command),
-        Command::Attack { .. } => attack_changes(alloc, setup, state, help, player, command),
-        Command::Delete { .. } => delete_changes(alloc, setup, state, help, player, command),
-        Command::Place { .. } => place_changes(alloc, setup, state, help, player, command),
-        Command::Train { .. } => train_changes(alloc, setup, state, help, player, command),
-        Command::Resign => resign_changes(alloc, setup, state, help, player, command),
-    }
+    task.plan(alloc)
 }
 
 /// Runs the words with these cleared rigs. Each kind of command has a handler of its own, and all of them plan by one function; each

@@ -26,7 +26,6 @@ mod stored;
 
 pub use looking::{compare, digest, part_number, show, text_of};
 pub use plain::{Entity, Facts, about, entities, entities_of};
-pub use planning::planned;
 pub use playing::{first, turn};
 pub use reading::{commands_of, match_of, state_of};
 pub use refused::Refused;

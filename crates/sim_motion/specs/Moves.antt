@@ -1,7 +1,7 @@
 -- How the code speaks of rows that move.
-use Rattle.{sim_motion.specs.declared.moves.Moved.Moved, sim_system.specs.declared.Way.Way}
+use Rattle.{sim_motion.specs.declared.course.Course.Course, sim_motion.specs.declared.moves.Moved.Moved, sim_system.specs.declared.Way.Way}
 use Rattle.std.specs.Prelude.{◌≡◌, ℕ, Bool, true, false, ◌⊎◌, List, [], Some, None, Option}
-use Rattle.sim_base.specs.{Move.along_found, Move.walked, Validity.IsInside, declared.setup.Setup.Setup}
+use Rattle.sim_base.specs.{Move.along, Move.along_found, Move.walked, Validity.IsInside, declared.setup.Setup.Setup}
 use Rattle.sim_base.specs.declared.{place.Point.Point, state.Motion.Motion, state.Motion.TheVariants.Going, state.Motion.TheVariants.Still, state.Row.Row}
 use Rattle.sim_motion.specs.declared.chase.Chase.{Chase, TheVariants.Go, TheVariants.Keep, TheVariants.Stay}
 use Rattle.sim_base.specs.Ways as ways
@@ -24,6 +24,14 @@ motion_or (Some motion) before = Some motion
 -- the row at its new place, with its new motion, if it is another one
 abbrev pub row_moved : Row → Moved → Row
 row_moved row new = record row { at = new.at; motion = motion_or new.motion row.motion }
+
+-- the motion of a row that takes this course
+abbrev pub going : Course → Motion
+going course = Going course.goal.now course.way.now course.whole
+
+-- a row that has walked along its course as far as its budget goes
+abbrev pub along_course : Row → ℕ → Course → Row
+along_course row budget course = along row budget course.goal.now course.way.now course.whole
 
 -- a row goes along the way that it found
 abbrev pub along_way : Row → ℕ → Point → ways.Way → Row

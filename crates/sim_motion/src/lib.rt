@@ -7,11 +7,13 @@
 //! - `far`: how far apart two points are.
 //! - `walk`: how far a budget leads along waypoints.
 //! - `chase`: what a row does by its target.
+//! - `course`: where a row goes.
 //! - `moves`: where a row comes to, and how it goes on.
 //! - `phase`: the changes of all rows.
 #![tactic(auto)]
 
 mod chase;
+mod course;
 mod far;
 mod moves;
 mod phase;

@@ -1,13 +1,14 @@
 //! Where a row comes to, and how it goes on.
 
-ghost use Rattle.std.specs.Prelude.{◌≡◌, true, [], IfOk, IsOk, IsTrue, Some, All};
+ghost use Rattle.std.specs.Prelude.{◌≡◌, true, [], IfOk, IsOk, IsTrue, Some};
 ghost use Rattle.sim_base.specs.{Filters.field_of, Rows.arms_of as arms_by, Rows.row_of, Rows.size_of, Rows.target_of as target_by, WayOf.way_of};
-ghost use Rattle.sim_base.specs.{Move.after_walk as after_walk_by, Move.along as along_by, Move.chasing, Move.moved_by, Move.walked, Validity.IsKnownRow};
-ghost use Rattle.sim_base.specs.{Places.is_inside, Places.IsPlaced, declared.state.Motion.TheVariants.Going, declared.state.Motion.TheVariants.Still};
-ghost use Rattle.sim_motion.specs.Moves.{along_way, MakesNoWay, NeedsNoMemory, row_moved, way_in};
+ghost use Rattle.sim_base.specs.{Move.after_walk as after_walk_by, Move.chasing, Move.moved_by, Move.walked, Validity.IsKnownRow};
+ghost use Rattle.sim_base.specs.{Places.is_inside, Places.IsPlaced, declared.state.Motion.TheVariants.Still};
+ghost use Rattle.sim_motion.specs.Moves.{along_course, along_way, going, MakesNoWay, NeedsNoMemory, row_moved, way_in};
 ghost use Rattle.sim_plans.specs.SceneWords.{Stands};
 
 use crate::chase::{Chase, chase_of};
+use crate::course::Course;
 use crate::walk::walk;
 use sim_base::{Items, Motion, OutOfMemory, Point, Row};
 use sim_plans::{RowIndex, Scene};
@@ -21,69 +22,102 @@ pub struct Moved {
     pub motion: Option<Motion>,
 }
 
-/// Where a row with this budget comes to, and how it goes on.
-pub fn move_of(
-    alloc: Global,
-    index: &RowIndex,
-    scene: &Scene<'_>,
-    row: &Row,
-    motion: &Motion,
-    budget: u32,
-) -> Result<Moved, OutOfMemory>
-    requires stands { Stands scene.now ⟦<dyn System as System>⟧ }
-    requires row { IsKnownRow 0 scene.now.setup.now scene.now.state.now.rows row.now }
-    requires motion { row.now.motion ≡ Some motion.now }
-    ensures value { IfOk result (λ new. row_moved row.now new ≡ moved_by scene.now.setup.now scene.now.state.now row.now budget
-        (chasing row.now motion.now (row_of scene.now.state.now (target_by row.now)) (arms_by scene.now.setup.now row.now))) }
-    ensures light { NeedsNoMemory row.now.at budget (chasing row.now motion.now (row_of scene.now.state.now (target_by row.now))
-        (arms_by scene.now.setup.now row.now)) → IsOk result }
-{
-    match chase_of(index, scene.setup, scene.state, row, motion) {
-        Chase::Stay => Ok(stay(row)),
-        Chase::Go(goal) => go(alloc, scene, row, budget, &goal),
-        Chase::Keep => match motion {
-            Motion::Still => Ok(stay(row)),
-            Motion::Going { goal, way, whole } => {
-                let points = way.as_slice();
-                if points.is_empty() && !*whole {
-                    go(alloc, scene, row, budget, goal)
-                } else {
-                    go_on(alloc, row, budget, goal, points, *whole)
+/// A row that stands on the ground, and how far it may go, in units of 1/65536 m.
+#[derive(Drop)]
+pub struct Walker<'a> {
+    pub row: &'a Row,
+    pub budget: u32,
+    ghost placed: { IsPlaced row.now.at },
+}
+
+impl Walker<'_> {
+    /// Where the row comes to with a motion that is its own, and how it goes on.
+    pub fn moved(
+        &self,
+        alloc: Global,
+        index: &RowIndex,
+        scene: &Scene<'_>,
+        motion: &Motion,
+    ) -> Result<Moved, OutOfMemory>
+        requires stands { Stands scene.now ⟦<dyn System as System>⟧ }
+        requires row { IsKnownRow 0 scene.now.setup.now scene.now.state.now.rows self.now.row.now }
+        requires motion { self.now.row.now.motion ≡ Some motion.now }
+        ensures value { let row = self.now.row.now in IfOk result (λ new. row_moved row new
+            ≡ moved_by scene.now.setup.now scene.now.state.now row self.now.budget (chasing row motion.now (row_of scene.now.state.now (target_by row))
+            (arms_by scene.now.setup.now row))) }
+        ensures light { let row = self.now.row.now in NeedsNoMemory row.at self.now.budget (chasing row motion.now (row_of scene.now.state.now (target_by row))
+            (arms_by scene.now.setup.now row)) → IsOk result }
+    {
+        match chase_of(index, scene.setup, scene.state, self.row, motion) {
+            Chase::Stay => Ok(self.stay()),
+            Chase::Go(goal) => self.go(alloc, scene, &goal),
+            Chase::Keep => match motion {
+                Motion::Still => Ok(self.stay()),
+                Motion::Going { goal, way, whole } => {
+                    let way = way.as_slice();
+                    if way.is_empty() && !*whole {
+                        return self.go(alloc, scene, goal);
+                    }
+                    let whole = *whole;
+                    self.go_on(alloc, &Course { goal, way, whole })
                 }
-            }
-        },
+            },
+        }
     }
-}
 
-fn stay(row: &Row) -> Moved
-    ensures { row_moved row.now result ≡ record row.now { motion = Some Still } }
-{
-    Moved {
-        at: row.at,
-        motion: Some(Motion::Still),
+    fn stay(&self) -> Moved
+        ensures { row_moved self.now.row.now result ≡ record self.now.row.now { motion = Some Still } }
+    {
+        Moved {
+            at: self.row.at,
+            motion: Some(Motion::Still),
+        }
     }
-}
 
-// The row asks a way, and goes along it; if it leads nowhere, the row stands still.
-fn go(
-    alloc: Global,
-    scene: &Scene<'_>,
-    row: &Row,
-    budget: u32,
-    goal: &Point,
-) -> Result<Moved, OutOfMemory>
-    requires stands { Stands scene.now ⟦<dyn System as System>⟧ }
-    requires at { IsTrue (is_inside (size_of scene.now.setup.now.land) row.now.at) }
-    requires goal { IsTrue (is_inside (size_of scene.now.setup.now.land) goal.now) }
-    ensures { IfOk result (λ new. row_moved row.now new ≡ along_way row.now budget goal.now
-        (way_of (field_of scene.now.setup.now scene.now.state.now) row.now.at goal.now)) }
-{
-    let way = way(scene, &row.at, goal)?;
-    let points = way.points.as_slice();
-    if points.is_empty() {
-        Ok(stay(row))
-    } else {
-        along(alloc, row, budget, goal, points, way.whole)
+    // The row asks a way, and goes along it; if it leads nowhere, the row stands still.
+    fn go(&self, alloc: Global, scene: &Scene<'_>, goal: &Point) -> Result<Moved, OutOfMemory>
+        requires stands { Stands scene.now ⟦<dyn System as System>⟧ }
+        requires at { IsTrue (is_inside (size_of scene.now.setup.now.land) self.now.row.now.at) }
+        requires goal { IsTrue (is_inside (size_of scene.now.setup.now.land) goal.now) }
+        ensures { IfOk result (λ new. row_moved self.now.row.now new ≡ along_way self.now.row.now self.now.budget goal.now
+            (way_of (field_of scene.now.setup.now scene.now.state.now) self.now.row.now.at goal.now)) }
+    {
+        let found = way(scene, &self.row.at, goal)?;
+        let way = found.points.as_slice();
+        if way.is_empty() {
+            return Ok(self.stay());
+        }
+        let whole = found.whole;
+        self.along(alloc, &Course { goal, way, whole })
+    }
+
+    // The row goes along its own way. Where it reaches no waypoint it goes on as it went, which takes no memory.
+    fn go_on(&self, alloc: Global, course: &Course<'_>) -> Result<Moved, OutOfMemory>
+        requires { self.now.row.now.motion ≡ Some (going course.now) }
+        ensures value { IfOk result (λ new. row_moved self.now.row.now new ≡ along_course self.now.row.now self.now.budget course.now) }
+        ensures light { MakesNoWay course.now.whole course.now.way.now (walked self.now.row.now.at self.now.budget course.now.way.now).way → IsOk result }
+    {
+        let (at, left) = walk(&self.row.at, self.budget, course.way);
+        if !left.is_empty() && left.len() == course.way.len() {
+            return Ok(Moved { at, motion: None });
+        }
+        let motion = after_walk(alloc, course.goal, left, course.whole)?;
+        Ok(Moved {
+            at,
+            motion: Some(motion),
+        })
+    }
+
+    // The row goes along a way as far as its budget leads.
+    fn along(&self, alloc: Global, course: &Course<'_>) -> Result<Moved, OutOfMemory>
+        ensures { IfOk result (λ new. row_moved self.now.row.now new ≡ along_course self.now.row.now self.now.budget course.now) }
+    {
+        let (at, left) = walk(&self.row.at, self.budget, course.way);
+        let motion = after_walk(alloc, course.goal, left, course.whole)?;
+        Ok(Moved {
+            at,
+            motion: Some(motion),
+        })
     }
 }
 
@@ -102,53 +136,6 @@ fn way(scene: &Scene<'_>, start: &Point, goal: &Point) -> Result<Way, OutOfMemor
         Answer::Found { way } => Ok(way),
         _ => unreachable!(),
     }
-}
-
-// The row goes along its own way. Where it reaches no waypoint it goes on as it went, which takes no memory.
-fn go_on(
-    alloc: Global,
-    row: &Row,
-    budget: u32,
-    goal: &Point,
-    way: &[Point],
-    whole: bool,
-) -> Result<Moved, OutOfMemory>
-    requires at { IsPlaced row.now.at }
-    requires way { All IsPlaced way.now }
-    requires motion { row.now.motion ≡ Some (Going goal.now way.now whole) }
-    ensures value { IfOk result (λ new. row_moved row.now new ≡ along_by row.now budget goal.now way.now whole) }
-    ensures light { MakesNoWay whole way.now (walked row.now.at budget way.now).way → IsOk result }
-{
-    let (at, left) = walk(&row.at, budget, way);
-    if !left.is_empty() && left.len() == way.len() {
-        return Ok(Moved { at, motion: None });
-    }
-    let motion = after_walk(alloc, goal, left, whole)?;
-    Ok(Moved {
-        at,
-        motion: Some(motion),
-    })
-}
-
-// The row goes along a way as far as its budget leads.
-fn along(
-    alloc: Global,
-    row: &Row,
-    budget: u32,
-    goal: &Point,
-    way: &[Point],
-    whole: bool,
-) -> Result<Moved, OutOfMemory>
-    requires at { IsPlaced row.now.at }
-    requires way { All IsPlaced way.now }
-    ensures { IfOk result (λ new. row_moved row.now new ≡ along_by row.now budget goal.now way.now whole) }
-{
-    let (at, left) = walk(&row.at, budget, way);
-    let motion = after_walk(alloc, goal, left, whole)?;
-    Ok(Moved {
-        at,
-        motion: Some(motion),
-    })
 }
 
 // How a row goes on that has walked up to these waypoints.

@@ -5,7 +5,7 @@ ghost use Rattle.{sim_motion.specs.Moves.motion_or, sim_motion.specs.Moves.row_m
 ghost use Rattle.std.specs.Prelude.{◌≡◌, [], ◌++◌, IfOk, OnOk, IsSome, IsOk, Some, None};
 ghost use Rattle.sim_plans.specs.{PlanLaws.IsPlanOf, RowPlans.goes_on as goes_on_by, RowPlans.motion_changes as motion_changes_by, RowPlans.step_changes};
 
-use crate::moves::{Moved, move_of};
+use crate::moves::{Moved, Walker};
 use sim_base::{Change, Changes, Items, Motion, OutOfMemory, Row};
 use sim_plans::{RowIndex, Scene, same_point, speed_of};
 use sim_system::System;
@@ -53,7 +53,7 @@ fn push_move(
         return Ok(());
     };
     let budget = speed.raw().unsigned_abs() / 5;
-    let new = move_of(alloc, index, scene, row, motion, budget)?;
+    let new = Walker { row, budget }.moved(alloc, index, scene, motion)?;
     push_step(changes, row, new)
 }
 

@@ -1,43 +1,48 @@
 -- The plan of a command is what a planner has to answer.
-use Rattle.sim_orders.proofs.{Common.sym, Common.template_of, Common.Train, Common.train_changes, Common.trains, Common.Walk, Common.◌∙◌, Halves.sorted_order}
-use Rattle.sim_orders.proofs.Common.{IsPermutation, refl, ap, arith, Attack, Cell, centre_of, Change, Command, command_is_own, command_is_planned}
-use Rattle.sim_orders.proofs.Common.{command_plan_by, cond-true, Create, Delete, has_room, Help, id_of, is_ordered, IsGiven, IsPlanned, kind_of, Obeys}
-use Rattle.sim_orders.proofs.Common.{ordered_changes, OutOfMemory, Place, place_changes, Remove, Resign, Row, row_of, Setup, spot, spot_for, State, Stop, subst}
-use Rattle.sim_orders.proofs.Common.{◌≡◌, ℕ, Bool, true, cond, ◌&&◌, List, [], ◌∷◌, map, ◌==◌, slice_get, Some, Ok, filter, flat_map, Result, option_and_then}
+use Rattle.sim_orders.proofs.Common.{ap, arith, Attack, Cell, centre_of, Change, Command, command_is_own, command_is_planned, command_plan_by, cond-true}
+use Rattle.sim_orders.proofs.Common.{Create, Delete, Fulfils, has_room, id_of, IfOk, is_ordered, IsGiven, IsPermutation, IsPlanned, kind_of, of_answer}
+use Rattle.sim_orders.proofs.Common.{ordered_changes, OutOfMemory, Place, place_changes, plan_for, PlayerCommand, refl, Remove, Resign, Row, row_of, Setup}
+use Rattle.sim_orders.proofs.Common.{spot, spot_for, State, Stop, subst, sym, Task, template_of, Train, train_changes, trains, Walk, ◌∙◌}
+use Rattle.sim_orders.proofs.Common.{◌≡◌, ℕ, Bool, true, cond, ◌&&◌, List, [], ◌∷◌, map, ◌==◌, slice_get, Some, filter, flat_map, Result, option_and_then}
+use Rattle.sim_orders.proofs.Halves.{sorted_order}
 
--- the changes of the plan are as they have to be
-pub plan_is_planned : (kind : ℕ) (setup : Setup) (state : State) (help : Help) (player : ℕ) (command : Command) (changes : List Change)
-    → IsGiven kind setup state help player command →
-    changes ≡ command_plan_by setup state player command → IsPlanned setup state player command changes
-plan_is_planned kind setup state help player command changes given is =
-    subst (IsPlanned setup state player command) (sym is)
+-- changes that are those of the plan of the task's command are as they have to be
+pub plan_is_planned : (kind : ℕ) (task : Task) (changes : List Change) → IsGiven kind task → changes ≡ plan_for task task.command.now →
+    IsPlanned task.setup.now task.state.now task.player task.command.now changes
+plan_is_planned kind task changes given is =
+    let order : PlayerCommand = record { player = task.player; command = task.command.now } in
+    subst (IsPlanned task.setup.now task.state.now task.player task.command.now) (sym is)
     (record {
-      plan = command_is_planned setup state (record { player = player; command = command }) given.limits given.player_is given.valid;
-      own = command_is_own setup state (record { player = player; command = command }) given.limits given.player_is given.valid;
+      plan = command_is_planned task.setup.now task.state.now order given.limits given.player_is given.valid;
+      own = command_is_own task.setup.now task.state.now order given.limits given.player_is given.valid;
     })
 
--- the same of an answer
-pub plan_obeys : (kind : ℕ) (setup : Setup) (state : State) (help : Help) (player : ℕ) (command : Command) (result : Result (List Change) OutOfMemory)
-    → IsGiven kind setup state help player command →
-    ((changes : List Change) → result ≡ Ok changes → changes ≡ command_plan_by setup state player command) → Obeys setup state player command result
-plan_obeys kind setup state help player command result given is = λ changes e. plan_is_planned kind setup state help player command changes given (is changes e)
+-- the same of an answer to the command, by whatever name it has
+pub plan_fulfils : (kind : ℕ) (task : Task) (command : Command) (result : Result (List Change) OutOfMemory) → IsGiven kind task → task.command.now ≡ command →
+    IfOk result (λ changes. changes ≡ plan_for task command) → Fulfils task result
+plan_fulfils kind task command result given is answered =
+    λ changes e. plan_is_planned kind task changes given (of_answer _ result changes e answered ∙ ap (plan_for task) (sym is))
 
 -- the changes of the rows that are ordered by sorted ids are those of the ids
-pub sorted_changes : (player : ℕ) (ids sorted : List ℕ) (f : Row → List Change) (rows : List Row) (state : State) (changes : List Change)
-    → IsPermutation ids sorted → rows ≡ state.rows →
-    changes ≡ flat_map (λ row. cond (is_ordered player sorted row) (f row) []) rows → changes ≡ ordered_changes player ids f state
-sorted_changes player ids sorted f rows state changes p rows_are e =
-    e ∙ ap (λ (test : Row → Bool). flat_map (λ row. cond (test row) (f row) []) rows) (sorted_order player ids sorted p) ∙
+pub sorted_changes : (player : ℕ) (ids sorted : List ℕ) (f : Row → List Change) (rows : List Row) (state : State) → IsPermutation ids sorted
+    → rows ≡ state.rows →
+    flat_map (λ row. cond (is_ordered player sorted row) (f row) []) rows ≡ ordered_changes player ids f state
+sorted_changes player ids sorted f rows state p rows_are =
+    ap (λ (test : Row → Bool). flat_map (λ row. cond (test row) (f row) []) rows) (sorted_order player ids sorted p) ∙
     ap (flat_map (λ row. cond (is_ordered player ids row) (f row) [])) rows_are
 
 -- and so it is with rows that leave
-pub sorted_removals : (player : ℕ) (ids sorted : List ℕ) (rows : List Row) (state : State) (changes : List Change) → IsPermutation ids sorted
-    → rows ≡ state.rows →
-    changes ≡ map (λ id. Remove id) (map id_of (filter (is_ordered player sorted) rows))
-    → changes ≡ map (λ id. Remove id) (map id_of (filter (is_ordered player ids) state.rows))
-sorted_removals player ids sorted rows state changes p rows_are e =
-    e ∙ ap (λ (test : Row → Bool). map (λ id. Remove id) (map id_of (filter test rows))) (sorted_order player ids sorted p) ∙
+pub sorted_removals : (player : ℕ) (ids sorted : List ℕ) (rows : List Row) (state : State) → IsPermutation ids sorted → rows ≡ state.rows →
+    map (λ id. Remove id) (map id_of (filter (is_ordered player sorted) rows))
+    ≡ map (λ id. Remove id) (map id_of (filter (is_ordered player ids) state.rows))
+sorted_removals player ids sorted rows state p rows_are =
+    ap (λ (test : Row → Bool). map (λ id. Remove id) (map id_of (filter test rows))) (sorted_order player ids sorted p) ∙
     ap (λ (rs : List Row). map (λ id. Remove id) (map id_of (filter (is_ordered player ids) rs))) rows_are
+
+-- changes that are some list are another one that is the same
+pub answers_same : (result : Result (List Change) OutOfMemory) (one other : List Change) → one ≡ other → IfOk result (λ changes. changes ≡ one) →
+    IfOk result (λ changes. changes ≡ other)
+answers_same result one other same = subst (λ (plan : List Change). IfOk result (λ changes. changes ≡ plan)) same
 
 -- the one command of the last kind
 pub resigns : (command : Command) → kind_of command ≡ 7 → command ≡ Resign
@@ -60,9 +65,8 @@ train_there setup state player number building row cell found_is may spot_is =
     ap (place_changes player number) here
 
 -- what is given with a command of one kind is so with its own
-pub of_kind : (kind : ℕ) (setup : Setup) (state : State) (help : Help) (player : ℕ) (command : Command)
-    → IsGiven kind setup state help player command → IsGiven (kind_of command) setup state help player command
-of_kind kind setup state help player command given = record {
+pub of_kind : (kind : ℕ) (task : Task) → IsGiven kind task → IsGiven (kind_of task.command.now) task
+of_kind kind task given = record {
   limits = given.limits;
   valid = given.valid;
   player_is = given.player_is;

@@ -3,7 +3,7 @@ use mathlib.Core.HLevel.{Π_prop}
 use Rattle.{sim_plans.proofs.OneProof.all_own_prop, sim_plans.proofs.OneProof.plan_prop, std.specs.Prelude.ℕ, std.specs.Prelude.List, std.specs.Prelude.Result}
 use Rattle.sim_base.specs.{Commands.commanded_by, Limits.IsSetup, Validity.IsLooselyValid}
 use Rattle.sim_base.specs.declared.{change.Change.Change, command.Command.Command, memory.OutOfMemory.OutOfMemory, setup.Setup.Setup, state.State.State}
-use Rattle.sim_orders.specs.{Orders.IsGiven, Orders.IsPlanned, Orders.Obeys, declared.help.Help.Help}
+use Rattle.sim_orders.specs.{Orders.Fulfils, Orders.IsGiven, Orders.IsPlanned, declared.task.Task.Task}
 
 -- of the changes
 planned_prop : (setup : Setup) (state : State) (player : ℕ) (command : Command) (changes : List Change) → IsSetup setup → IsLooselyValid setup state →
@@ -15,7 +15,6 @@ planned_prop setup state player command changes limits valid x y =
     }
 
 -- of the answer
-pub obeys_prop : {kind : ℕ} {setup : Setup} {state : State} {help : Help} {player : ℕ} {command : Command} {result : Result (List Change) OutOfMemory} →
-    IsGiven kind setup state help player command → IsProp (Obeys setup state player command result)
-obeys_prop {kind} {setup} {state} {help} {player} {command} given =
-    Π_prop (λ changes. Π_prop (λ e. planned_prop setup state player command changes given.limits given.valid))
+pub fulfils_prop : {kind : ℕ} {task : Task} {result : Result (List Change) OutOfMemory} → IsGiven kind task → IsProp (Fulfils task result)
+fulfils_prop {kind} {task} given =
+    Π_prop (λ changes. Π_prop (λ e. planned_prop task.setup.now task.state.now task.player task.command.now changes given.limits given.valid))

@@ -1,12 +1,12 @@
-//! The changes of the rows that a command orders, row by row. The ids ascend.
+//! The changes of the rows that a command orders, row by row.
 
-ghost use Rattle.{sim_base.specs.Commands.is_ordered as is_ordered_by, sim_base.specs.Rows.id_of, sim_orders.specs.Light.OwnsNone};
-ghost use Rattle.std.specs.List.{flat_map, Sorted.IsNonDecreasing};
+ghost use Rattle.{sim_base.specs.Commands.is_ordered, sim_base.specs.Rows.id_of, sim_orders.specs.Light.OwnsNone};
+ghost use Rattle.std.specs.List.{flat_map};
 ghost use Rattle.std.specs.Prelude.{◌≡◌, [], ◌∷◌, ◌++◌, map, IfOk, if◌then◌else◌, OnOk, IsOk, ◌==◌, None, filter};
 ghost use Rattle.sim_base.specs.declared.{change.Change.TheVariants.Owner, change.Change.TheVariants.Remove, state.Row.Row as AnyRow};
 ghost use Rattle.sim_plans.specs.CommandPlans.{sent_changes, set_on_changes, stop_changes};
 
-use crate::named::is_ordered;
+use crate::named::Named;
 use sim_base::{Change, Changes, Items, Motion, OutOfMemory, Point, Row};
 use sim_plans::{push_stance, push_stand};
 use std::alloc::Global;
@@ -16,16 +16,15 @@ pub fn sent(
     alloc: Global,
     rows: &[Row],
     player: u8,
-    ids: &[u32],
+    ids: &Named,
     to: &Point,
 ) -> Result<Changes, OutOfMemory>
-    requires { IsNonDecreasing ids.now }
-    ensures { IfOk result (λ changes. changes ≡ flat_map (λ row. if is_ordered_by player ids.now row then sent_changes to.now row else []) rows.now) }
+    ensures { IfOk result (λ changes. changes ≡ flat_map (λ row. if is_ordered player ids.now.ids row then sent_changes to.now row else []) rows.now) }
 {
     let mut changes = Items::new(alloc);
     let mut next = 0;
     for row in rows {
-        if is_ordered(player, ids, row, next) {
+        if ids.orders(player, row, next) {
             next = next.saturating_add(1);
             push_sent(alloc, &mut changes, to, row)?;
         }
@@ -51,14 +50,13 @@ fn push_sent(alloc: Global, changes: &mut Changes, to: &Point, row: &Row) -> Res
 }
 
 /// The player's rows that are named are released, and those that can attack hold their places.
-pub fn stopped(alloc: Global, rows: &[Row], player: u8, ids: &[u32]) -> Result<Changes, OutOfMemory>
-    requires { IsNonDecreasing ids.now }
-    ensures { IfOk result (λ changes. changes ≡ flat_map (λ row. if is_ordered_by player ids.now row then stop_changes row else []) rows.now) }
+pub fn stopped(alloc: Global, rows: &[Row], player: u8, ids: &Named) -> Result<Changes, OutOfMemory>
+    ensures { IfOk result (λ changes. changes ≡ flat_map (λ row. if is_ordered player ids.now.ids row then stop_changes row else []) rows.now) }
 {
     let mut changes = Items::new(alloc);
     let mut next = 0;
     for row in rows {
-        if is_ordered(player, ids, row, next) {
+        if ids.orders(player, row, next) {
             next = next.saturating_add(1);
             push_stand(&mut changes, 0, true, row)?;
         }
@@ -71,16 +69,15 @@ pub fn set_on(
     alloc: Global,
     rows: &[Row],
     player: u8,
-    ids: &[u32],
+    ids: &Named,
     target: u32,
 ) -> Result<Changes, OutOfMemory>
-    requires { IsNonDecreasing ids.now }
-    ensures { IfOk result (λ changes. changes ≡ flat_map (λ row. if is_ordered_by player ids.now row then set_on_changes target row else []) rows.now) }
+    ensures { IfOk result (λ changes. changes ≡ flat_map (λ row. if is_ordered player ids.now.ids row then set_on_changes target row else []) rows.now) }
 {
     let mut changes = Items::new(alloc);
     let mut next = 0;
     for row in rows {
-        if is_ordered(player, ids, row, next) {
+        if ids.orders(player, row, next) {
             next = next.saturating_add(1);
             push_set_on(&mut changes, target, row)?;
         }
@@ -100,14 +97,13 @@ fn push_set_on(changes: &mut Changes, target: u32, row: &Row) -> Result<(), OutO
 }
 
 /// The player's rows that are named leave.
-pub fn deleted(alloc: Global, rows: &[Row], player: u8, ids: &[u32]) -> Result<Changes, OutOfMemory>
-    requires { IsNonDecreasing ids.now }
-    ensures { IfOk result (λ changes. changes ≡ map (λ id. Remove id) (map id_of (filter (is_ordered_by player ids.now) rows.now))) }
+pub fn deleted(alloc: Global, rows: &[Row], player: u8, ids: &Named) -> Result<Changes, OutOfMemory>
+    ensures { IfOk result (λ changes. changes ≡ map (λ id. Remove id) (map id_of (filter (is_ordered player ids.now.ids) rows.now))) }
 {
     let mut changes = Items::new(alloc);
     let mut next = 0;
     for row in rows {
-        if is_ordered(player, ids, row, next) {
+        if ids.orders(player, row, next) {
             next = next.saturating_add(1);
             changes.push(Change::Remove { id: row.id })?;
         }

@@ -2,19 +2,17 @@
 
 ghost use Rattle.{sim_base.specs.Limits.IsFrom, sim_plans.specs.SceneWords.Stands};
 ghost use Rattle.std.specs.Prelude.{◌≡◌, ℕ, ◌<◌, ◌≤◌, ◌==◌, count_by};
-ghost use Rattle.sim_orders.specs.{OneProof.obeys_prop, Orders.IsGiven, Orders.kind_of as kind_by, Orders.Obeys};
+ghost use Rattle.sim_orders.specs.{OneProof.fulfils_prop, Orders.Fulfils, Orders.IsGiven, Orders.Obeys};
 
 use crate::asks::help_of;
-use crate::{Help, kind_of};
-use sim_base::{Changes, Command, OutOfMemory, PlayerCommand, Setup, State};
+use crate::{Task, kind_of};
+use sim_base::{Changes, OutOfMemory, PlayerCommand};
 use sim_plans::Scene;
 use sim_system::System;
 use std::alloc::Global;
 
-/// A planner as it is stored: of a setup, a state, its help, a player and his command.
-pub type Planner = Box<
-    dyn Fn(Global, &Setup, &State, &Help, u8, &Command) -> Result<Changes, OutOfMemory>,
->;
+/// A planner as it is stored.
+pub type Planner = Box<dyn Fn(Global, &Task<'_>) -> Result<Changes, OutOfMemory>>;
 
 /// A planner for the commands of a kind. It may be called with each command of that kind in each state that is loosely
 /// valid, and what it answers obeys the command.
@@ -22,32 +20,21 @@ pub type Planner = Box<
 pub struct Handler {
     pub kind: u8,
     pub run: Planner,
-    ghost may_run: { (alloc : _) (setup : _) (state : _) (help : _) (player : _) (command : _)
-        → IsGiven kind setup.now state.now help.now player command.now
-        → pre run alloc setup state help player command },
-    ghost obeys: { (alloc : _) (setup : _) (state : _) (help : _) (player : _) (command : _) (result : _)
-        → IsGiven kind setup.now state.now help.now player command.now
-        → post run alloc setup state help player command result
-        → Obeys setup.now state.now player command.now result } by { λ x y i alloc setup state help player command result given done.
-            obeys_prop given (x alloc setup state help player command result given done)
-            (y alloc setup state help player command result given done) i },
+    ghost may_run: { (alloc : _) (task : _) → IsGiven kind task.now → pre run alloc task },
+    ghost obeys: { (alloc : _) (task : _) (result : _)
+        → IsGiven kind task.now
+        → post run alloc task result
+        → Fulfils task.now result } by { λ x y i alloc task result given done.
+            fulfils_prop given (x alloc task result given done) (y alloc task result given done) i },
 }
 
 impl Handler {
     // What it plans for a command of its kind.
-    fn plan(
-        &self,
-        alloc: Global,
-        setup: &Setup,
-        state: &State,
-        help: &Help,
-        player: u8,
-        command: &Command,
-    ) -> Result<Changes, OutOfMemory>
-        requires { IsGiven self.now.kind setup.now state.now help.now player command.now }
-        ensures { Obeys setup.now state.now player command.now result }
+    fn plan(&self, alloc: Global, task: &Task<'_>) -> Result<Changes, OutOfMemory>
+        requires { IsGiven self.now.kind task.now }
+        ensures { Fulfils task.now result }
     {
-        (self.run)(alloc, setup, state, help, player, command)
+        (self.run)(alloc, task)
     }
 }
 
@@ -79,26 +66,26 @@ impl OrderTable {
         ensures { Obeys scene.now.setup.now scene.now.state.now order.now.player order.now.command result }
     {
         let help = help_of(scene, order)?;
-        self.run(alloc, scene.setup, scene.state, &help, order)
+        let task = Task {
+            setup: scene.setup,
+            state: scene.state,
+            help: &help,
+            player: order.player,
+            command: &order.command,
+        };
+        self.handler_of(kind_of(task.command)).plan(alloc, &task)
     }
 
-    // What the handler of the order's kind plans with this help.
-    fn run(
-        &self,
-        alloc: Global,
-        setup: &Setup,
-        state: &State,
-        help: &Help,
-        order: &PlayerCommand,
-    ) -> Result<Changes, OutOfMemory>
-        requires { IsGiven (kind_by order.now.command) setup.now state.now help.now order.now.player order.now.command }
-        ensures { Obeys setup.now state.now order.now.player order.now.command result }
+    // The handler of a kind.
+    fn handler_of(&self, kind: u8) -> &Handler
+        requires from_one { 0 < kind }
+        requires to_seven { kind ≤ 7 }
+        ensures { result.now.kind ≡ kind }
     {
-        let kind = kind_of(&order.command);
         let mut rest = self.handlers.as_slice();
         while let [handler, more @ ..] = rest {
             if handler.kind == kind {
-                return handler.plan(alloc, setup, state, help, order.player, &order.command);
+                return handler;
             }
             rest = more;
         }

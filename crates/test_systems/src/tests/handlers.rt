@@ -2,16 +2,16 @@
 //! function gives up, the run ends with that. A table that calls the usual planners would go on.
 
 ghost use Rattle.{sim_base.specs.declared.change.Change.TheVariants.Owner, sim_base.specs.declared.state.Row.Row as AnyRow, std.specs.List.flat_map};
-ghost use Rattle.{sim_client.specs.StageWords.AreCleared, sim_orders.specs.Orders.IsGiven, sim_orders.specs.Orders.kind_of, sim_orders.specs.Orders.Obeys};
+ghost use Rattle.{sim_client.specs.StageWords.AreCleared, sim_orders.specs.Orders.Fulfils, sim_orders.specs.Orders.IsGiven, sim_orders.specs.Orders.kind_of};
 ghost use Rattle.std.specs.Prelude.{◌≡◌, [], ◌∷◌, length, IfOk, if◌then◌else◌, ◌==◌, All};
 ghost use Rattle.sim_stock.specs.Deeds.{deed as deed_of, IsAsked};
 ghost use Rattle.sim_system.specs.{Meanings.HaveKinds, RigWords.systems_of};
 
 use crate::tests::runs::{ended, play, printed};
-use sim_base::{Change, Changes, Command, Items, OutOfMemory, Row, Setup, State};
+use sim_base::{Change, Changes, Items, OutOfMemory, Row};
 use sim_census::Census;
 use sim_ground::Ground;
-use sim_orders::{Handler, Help, OrderTable, Planner};
+use sim_orders::{Handler, OrderTable, Planner, Task};
 use sim_range::Range;
 use sim_stock::{Deed, DeedFunction, DeedHandler, DeedTable, Stocks, barter, tribute};
 use sim_store::{MemShelf, MemSink};
@@ -48,36 +48,22 @@ fn left(alloc: Global, rows: &[Row], player: u8) -> Result<Changes, OutOfMemory>
 }
 
 // Plans as the usual planners do.
-fn planned_as_usual(
-    alloc: Global,
-    setup: &Setup,
-    state: &State,
-    help: &Help,
-    player: u8,
-    command: &Command,
-) -> Result<Changes, OutOfMemory>
-    requires { IsGiven (kind_of command.now) setup.now state.now help.now player command.now }
-    ensures { Obeys setup.now state.now player command.now result }
+fn planned_as_usual(alloc: Global, task: &Task<'_>) -> Result<Changes, OutOfMemory>
+    requires { IsGiven (kind_of task.now.command.now) task.now }
+    ensures { Fulfils task.now result }
 {
-    planned(alloc, setup, state, help, player, command)
+    planned(alloc, task)
 }
 
 // Plans a resignation by a body of its own. For player 2 it gives up, as its fact allows.
-fn resigned(
-    alloc: Global,
-    setup: &Setup,
-    state: &State,
-    help: &Help,
-    player: u8,
-    command: &Command,
-) -> Result<Changes, OutOfMemory>
-    requires { IsGiven 7 setup.now state.now help.now player command.now }
-    ensures { Obeys setup.now state.now player command.now result }
+fn resigned(alloc: Global, task: &Task<'_>) -> Result<Changes, OutOfMemory>
+    requires { IsGiven 7 task.now }
+    ensures { Fulfils task.now result }
 {
-    if player == 2 {
+    if task.player == 2 {
         return Err(OutOfMemory);
     }
-    left(alloc, state.rows.as_slice(), player)
+    left(alloc, task.state.rows.as_slice(), task.player)
 }
 
 // The stocks after a tribute.

@@ -3,19 +3,18 @@
 use denote.Param.Callables.{held_fn, Sure}
 use Rattle.std.proofs.Common.{◌+◌, refl, arith, subst, sym}
 use Rattle.sim_base.proofs.Keyed.{AreKeyedBelow, AreKeyedBelow-append}
-use Rattle.{sim_held.proofs.boards.play_over.OwnLists.own-2, sim_orders.proofs.Planning.of_kind, sim_orders.specs.Orders.Obeys}
+use Rattle.{sim_held.proofs.boards.play_over.OwnLists.own-2, sim_orders.proofs.Planning.of_kind, sim_orders.specs.Orders.Fulfils}
 use Rattle.sim_held.proofs.boards.play_over.Goals as goal
 
 pub invariant_of-push : goal.invariant_of-push
 invariant_of-push g c =
     record {
-      may_run = λ alloc setup state help player command given.
-          let r : (w : _) → Sure ((held_fn own-2).pre (c.into_dyn_box.result.vtable, w) (alloc, (setup, (state, (help, (player, (command, tt {0}))))))) =
-          rw c.into_dyn_box.ensures.0 (λ w. ∣ of_kind _ setup.now state.now help.now player command.now given ∣₁) in
+      may_run = λ alloc task given.
+          let r : (w : _) → Sure ((held_fn own-2).pre (c.into_dyn_box.result.vtable, w) (alloc, (task, tt {0}))) =
+          rw c.into_dyn_box.ensures.0 (λ w. ∣ of_kind _ task.now given ∣₁) in
           r c.into_dyn_box.result.value;
-      obeys = λ alloc setup state help player command result given done.
-          let r : (w : _) → (held_fn own-2).post (c.into_dyn_box.result.vtable, w) (alloc, (setup, (state, (help, (player, (command, tt {0})))))) result
-          → Obeys setup.now state.now player command.now result =
+      obeys = λ alloc task result given done.
+          let r : (w : _) → (held_fn own-2).post (c.into_dyn_box.result.vtable, w) (alloc, (task, tt {0})) result → Fulfils task.now result =
           rw c.into_dyn_box.ensures.0 (λ w so. so.1) in
           r c.into_dyn_box.result.value done;
     }

@@ -3,6 +3,5 @@ use Rattle.sim_orders.proofs.Common.{subst}
 
 pub returns : Rattle.sim_orders.proofs.table.Handler.plan.Goals.returns
 returns g c =
-    c.args.self.now.obeys c.args.alloc c.args.setup c.args.state c.args.help c.args.player c.args.command c.call.result c.requires
-    (subst (λ run. (g.dyn-1.0.entry run.0).1.post run.1 (c.args.alloc, (c.args.setup, (c.args.state, (c.args.help, (c.args.player, (c.args.command, tt))))))
-    c.call.result) c.deref_box-1.ensures.1 c.call.ensures.0)
+    c.args.self.now.obeys c.args.alloc c.args.task c.call.result c.requires
+    (subst (λ run. (g.dyn-1.0.entry run.0).1.post run.1 (c.args.alloc, (c.args.task, tt)) c.call.result) c.deref_box-1.ensures.1 c.call.ensures.0)

@@ -1,6 +1,0 @@
--- What a sort of numbers ensures is that they ascend.
-use Rattle.sim_orders.proofs.Common.{ℕ, List, IsNonDecreasing, IsNonDecreasingBy-from_sort, subst, sym}
-
-pub returns-clause-ascending : Rattle.sim_orders.proofs.named.sorted.Goals.returns-clause-ascending
-returns-clause-ascending c =
-    subst (λ (ids : List ℕ). IsNonDecreasing ids) (sym c.from_items.ensures) (IsNonDecreasingBy-from_sort (λ n. n) _ c.sort_unstable.ensures.sorted)

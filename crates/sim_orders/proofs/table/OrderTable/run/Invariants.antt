@@ -1,8 +1,0 @@
-use Rattle.sim_orders.proofs.Common.{◌≡◌, length, ◌==◌, count_by, kind_of}
-use Rattle.sim_orders.proofs.table.OrderTable.run.Given as goal
-
-abbrev pub invariant-loop-rest : goal.invariant-loop-rest
-invariant-loop-rest g l = record { one_left : count_by (λ handler. handler.kind == l.kind) l.rest ≡ 1; kind : l.kind ≡ kind_of l.order.command }
-
-abbrev pub decreases-loop-rest : goal.decreases-loop-rest
-decreases-loop-rest g l = length l.rest
