@@ -20,7 +20,7 @@ pub use Rattle.sim_laws.proofs.{Ground.same_cell-self, Ground.same_cell-true, Ne
 pub use Rattle.sim_territory.specs.{Floods.work_left, Influence.base_of, Influence.influence, Influence.reach_of, Influence.share, Influence.strength}
 pub use Rattle.sim_territory.specs.{Holders.has_most, Holders.holder, Holders.holder_by, Holders.IsHolder, Rooted.roots_among, Rooted.roots_of}
 pub use Rattle.sim_territory.specs.{Keeping.AreHolders, Keeping.AreInfluences, Keeping.holder_at, Realms.holders_in, Realms.influences_in, Realms.RealmOf}
-pub use Rattle.sim_territory.specs.Buildings.{GivesNothing, IsBuildingOf, share_of, SpansNear, strength_of}
+pub use Rattle.sim_territory.specs.{Buildings.GivesNothing, Buildings.IsBuildingOf, Buildings.share_of, Buildings.strength_of, Spans.SpansNear}
 pub use Rattle.sim_territory.specs.Common.{abs_diff, Base, Born, Cell, cells_of, Gone, IsOnGround, IsSetup, IsValid, list_all, Mark, marks_of, neighbour}
 pub use Rattle.sim_territory.specs.Common.{octile, place_of, range_with_len, row_limit, Setup, Shift, Size, size_of, State, Template, weight_born, weight_gone}
 pub use Rattle.sim_territory.specs.Floods.{AllWait, Fills, ground_of, ground_size, IsStayed, IsStepped, IsWet, IsWetAt, IsWetted, Spreads, StepsOn, Waits, Wets}

@@ -70,6 +70,7 @@ module _ (setup : Setup) (shifts : List Shift) (old mid : Sums) (i : ℕ) (d : S
   pub shift_fits : FitShifts setup shifts old → FitsShift setup (get_or shifts i d) mid
   shift_fits fits =
       record {
+        limits = fits.limits;
         mark = mark_later old mid (mark_in (get_or shifts i d)) done.shape (All-get_or (λ (s : Shift). IsMarkIn old (mark_in s)) shifts i d below fits.marks);
         there = λ player c at.
             let before = place-before old mid player c done.shape at in

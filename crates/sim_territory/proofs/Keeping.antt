@@ -112,6 +112,7 @@ module _ (setup : Setup) (old : List Mark) (state : State) (sums : Sums) (ascend
   pub realm_fits : FitShifts setup (shifts_between old (marks_of state)) sums
   realm_fits =
       record {
+        limits = kept.limits;
         marks =
             let law = follows (stray sums) in
             let olds = none_stray sums old kept.within in

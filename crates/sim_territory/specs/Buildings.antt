@@ -1,6 +1,6 @@
 -- Buildings, as the table of influences takes them.
-use Rattle.std.specs.Prelude.{◌≡◌, ℕ, ◌-◌, ◌*◌, ◌<◌, ◌≤◌, if◌then◌else◌, ◌==◌}
-use Rattle.sim_territory.specs.{Common.abs_diff, Common.Cell, Common.Mark, Common.octile, Common.Setup, Influence.share, declared.building.Building.Building}
+use Rattle.std.specs.Prelude.{◌≡◌, ℕ, ◌-◌, ◌≤◌, if◌then◌else◌, ◌==◌}
+use Rattle.sim_territory.specs.{Common.Cell, Common.Mark, Common.octile, Common.Setup, Influence.share, declared.building.Building.Building}
 
 -- the strength of a building at a cell
 abbrev pub strength_of : Building → Cell → ℕ
@@ -21,7 +21,3 @@ pub record IsBuildingOf (setup : Setup) (mark : Mark) (building : Building) : Ty
 -- the entity gives nothing to any player
 abbrev pub GivesNothing : Setup → Mark → Type 0
 GivesNothing setup mark = (player : ℕ) (c : Cell) → 1 ≤ player → share setup player c mark ≡ 0
-
--- the numbers from the first to before the end have all that are nearer than a reach, at 10 a cell
-abbrev pub SpansNear : ℕ → ℕ → ℕ → ℕ × ℕ → Type 0
-SpansNear from reach cells span = (n : ℕ) → n < cells → 10 * abs_diff from n < reach → (span.0 ≤ n) × (n < span.1)

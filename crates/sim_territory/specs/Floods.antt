@@ -41,6 +41,11 @@ pub record IsWetted (old new : Flood) (cell : Cell) : Type 0 where
 abbrev pub Wets : Flood → Flood → Cell → Type 0
 Wets old new cell = IsPassed old new cell ⊎ IsWetted old new cell
 
+-- a list tells who holds each cell of the ground, on which this cell is
+pub record IsHeldCell (flood : Flood) (holders : List ℕ) (cell : Cell) : Type 0 where
+  pub full : length holders ≡ flood.width * flood.depth
+  pub from : IsOnGround (ground_size flood) cell
+
 -- no step in that direction leads to a cell of the same holder, and nothing changed
 pub record IsStayed (ground : HeldGround) (old new : Flood) (from : Cell) (which : ℕ) : Type 0 where
   pub none : (e : Cell) → neighbour ground.size from which ≡ Some e → ground.holder e ≢ ground.holder from

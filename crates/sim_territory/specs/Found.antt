@@ -1,5 +1,6 @@
 -- Holders that are found anew in some of the cells.
-use Rattle.std.specs.Prelude.{◌≡◌, ℕ, ◌<◌, ◌≤◌, ◌⊎◌, List, length}
+use Rattle.std.specs.Prelude.{◌≡◌, ℕ, ◌*◌, ◌<◌, ◌≤◌, ◌⊎◌, List, length, Vec, vec_len}
+use Rattle.std.specs.declared.alloc.Global.{Global}
 use Rattle.sim_territory.specs.{Common.Cell, Common.IsOnGround, Common.Mark, Common.Setup, Tables.size_in, Tables.sum_at, declared.sums.Sums.Sums}
 use Rattle.sim_territory.specs.{Holders.holder_by, Influence.share, Keeping.holder_at}
 
@@ -17,6 +18,14 @@ IsHeldRight sums holders c = holder_at (size_in sums) holders c ≡ holder_by su
 -- a cell has its holder, or it had that one before and is none of some
 abbrev pub IsFoundOr : Sums → List ℕ → List ℕ → Cell → Type 0 → Type 0
 IsFoundOr sums old new c apart = IsHeldRight sums new c ⊎ ((holder_at (size_in sums) new c ≡ holder_at (size_in sums) old c) × apart)
+
+-- a list is as long as the ground has cells, and columns and rows, each from the first to before the end, are of the ground
+pub record IsBlockOf (sums : Sums) (holders : Vec ℕ Global) (columns rows : ℕ × ℕ) : Type 0 where
+  pub full : vec_len holders ≡ sums.width * sums.depth
+  pub west : columns.0 ≤ columns.1
+  pub east : columns.1 ≤ sums.width
+  pub south : rows.0 ≤ rows.1
+  pub north : rows.1 ≤ sums.depth
 
 -- within the columns and the rows each cell has its holder, and the others have the one of before
 pub record AreFound (sums : Sums) (columns rows : ℕ × ℕ) (old new : List ℕ) : Type 0 where

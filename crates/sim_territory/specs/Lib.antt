@@ -3,6 +3,7 @@ pub mod Influence
 pub mod Holders
 pub mod Rooted
 pub mod Realms
+pub mod Spans
 pub mod Buildings
 pub mod Tables
 pub mod Floods

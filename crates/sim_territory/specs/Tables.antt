@@ -2,7 +2,7 @@
 use Rattle.std.specs.Prelude.{sum_by}
 use Rattle.std.specs.Prelude.{◌≡◌, ℕ, ◌+◌, ◌-◌, ◌*◌, ◌^◌, ◌<◌, ◌≤◌, Bool, true, false, ◌&&◌, List, if◌then◌else◌, nat_lt, nat_le, ◌==◌, slice_index, All}
 use Rattle.sim_territory.specs.{Buildings.share_of, Influence.share, declared.building.Building.Building, declared.sums.Sums.Sums}
-use Rattle.sim_territory.specs.Common.{Born, Cell, Gone, IsOnGround, Mark, place_of, Setup, Shift, Size, weight_born, weight_gone}
+use Rattle.sim_territory.specs.Common.{Born, Cell, Gone, IsOnGround, IsSetup, Mark, place_of, Setup, Shift, Size, weight_born, weight_gone}
 
 -- the ground of a table
 abbrev pub size_in : Sums → Size
@@ -62,6 +62,12 @@ share_where which building player c = if which c then share_of building player c
 abbrev pub in_part : ℕ → ℕ → ℕ → Cell → Bool
 in_part z first end c = c.z == z && (nat_le first c.x && nat_lt c.x end)
 
+-- a building stands on the ground of a table, of which z is a row, and may come or go at these cells
+pub record MayShiftRow (comes : Bool) (building : Building) (z : ℕ) (which : Cell → Bool) (sums : Sums) : Type 0 where
+  pub place : IsPlaceIn sums building.owner building.cell
+  pub row : z < sums.depth
+  pub may : MaySumsMove comes (share_where which building) sums
+
 -- what an entity gives to each player's influence at each cell
 abbrev pub share_by : Setup → Mark → ℕ → Cell → ℕ
 share_by setup mark player c = share setup player c mark
@@ -83,8 +89,14 @@ pub record IsMarkIn (sums : Sums) (mark : Mark) : Type 0 where
   pub owner : mark.owner ≤ sums.players
   pub ground : IsOnGround (size_in sums) mark.cell
 
--- all that leaves is there, and all that comes fits
+-- a match within its limits, and an entity on the ground of a table
+pub record IsEntityOf (setup : Setup) (mark : Mark) (sums : Sums) : Type 0 where
+  pub limits : IsSetup setup
+  pub within : IsMarkIn sums mark
+
+-- the match is within its limits, all that leaves is there, and all that comes fits
 pub record FitShifts (setup : Setup) (shifts : List Shift) (sums : Sums) : Type 0 where
+  pub limits : IsSetup setup
   pub marks : All (λ shift. IsMarkIn sums (mark_in shift)) shifts
   pub there : (player : ℕ) (c : Cell) → IsPlaceIn sums player c → sum_by (leaving setup player c) shifts ≤ sum_at sums player c
   pub room : (player : ℕ) (c : Cell) → IsPlaceIn sums player c → sum_at sums player c + sum_by (coming setup player c) shifts < 2 ^ 32
@@ -95,8 +107,9 @@ pub record AreShifted (setup : Setup) (shifts : List Shift) (old new : Sums) : T
   pub each : (player : ℕ) (c : Cell) → IsPlaceIn old player c → sum_at new player c + sum_by (leaving setup player c) shifts ≡ sum_at old player c +
       sum_by (coming setup player c) shifts
 
--- what leaves by one shift is there, and what comes fits
+-- the match is within its limits, what leaves by one shift is there, and what comes fits
 pub record FitsShift (setup : Setup) (shift : Shift) (sums : Sums) : Type 0 where
+  pub limits : IsSetup setup
   pub mark : IsMarkIn sums (mark_in shift)
   pub there : (player : ℕ) (c : Cell) → IsPlaceIn sums player c → leaving setup player c shift ≤ sum_at sums player c
   pub room : (player : ℕ) (c : Cell) → IsPlaceIn sums player c → sum_at sums player c + coming setup player c shift < 2 ^ 32

@@ -2,21 +2,23 @@
 //! apart, so that no template is looked at for a cell.
 
 ghost use Rattle.std.specs.Prelude.{◌≡◌, ◌+◌, ◌-◌, ◌*◌, ◌^◌, ◌<◌, ◌≤◌, min, max, MatchOption};
-ghost use Rattle.sim_territory.specs.{Buildings.GivesNothing, Buildings.IsBuildingOf, Buildings.SpansNear, Influence.base_of as base_of_mark};
-ghost use Rattle.sim_territory.specs.Common.{abs_diff, IsSetup};
+ghost use Rattle.sim_territory.specs.{Common.abs_diff, Common.IsSetup, Influence.base_of as base_of_mark, Spans.SpansNear};
 
 use sim_base::{Base, Cell, Setup};
 use sim_trail::Mark;
 
 /// An obstruction of a player: its owner, its cell, and the octile distance at which its strength has come to nothing.
-#[derive(Clone, Copy, Debug, PartialEq, Eq)]
+#[derive(Clone, Copy)]
 pub struct Building {
     pub owner: u8,
     pub cell: Cell,
     pub reach: u32,
+    ghost near: { reach ≤ 1280 },
 }
 
 impl Building {
+    ghost use Rattle.sim_territory.specs.Buildings.{GivesNothing, IsBuildingOf};
+
     /// The building of an entity; none where it is Gaia's or no obstruction.
     pub fn of(setup: &Setup, mark: &Mark) -> Option<Building>
         requires { IsSetup setup.now }
@@ -46,7 +48,6 @@ impl Building {
     pub fn columns(&self, width: u16) -> (u16, u16)
         requires on { self.now.cell.x < width }
         requires narrow { width ≤ 256 }
-        requires near { self.now.reach ≤ 1280 }
         ensures order { result.0 ≤ result.1 }
         ensures most { result.1 ≤ width }
         ensures all { SpansNear self.now.cell.x self.now.reach width result }
@@ -59,7 +60,6 @@ impl Building {
     pub fn columns_of(&self, z: u16, width: u16) -> (u16, u16)
         requires on { self.now.cell.x < width }
         requires narrow { width ≤ 256 }
-        requires near { self.now.reach ≤ 1280 }
         ensures west { result.0 ≤ self.now.cell.x }
         ensures east { self.now.cell.x < result.1 }
         ensures most { result.1 ≤ width }
@@ -73,7 +73,6 @@ impl Building {
     pub fn rows(&self, depth: u16) -> (u16, u16)
         requires on { self.now.cell.z < depth }
         requires shallow { depth ≤ 256 }
-        requires near { self.now.reach ≤ 1280 }
         ensures order { result.0 ≤ result.1 }
         ensures most { result.1 ≤ depth }
         ensures all { SpansNear self.now.cell.z self.now.reach depth result }

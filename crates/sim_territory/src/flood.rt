@@ -21,7 +21,7 @@ pub struct Flood {
 impl Flood {
     ghost use Rattle.std.specs.Prelude.{◌≡◌, ◌*◌, ◌<◌, ◌≤◌, false, [], length, replicate, IfOk, OnOk};
     ghost use Rattle.sim_territory.specs.Common.{cell_at as cell_at_numbers, IsOnGround, neighbour, place_of};
-    ghost use Rattle.sim_territory.specs.Floods.{AllWait, Fills, ground_of, ground_size, Spreads, StepsOn, Wets};
+    ghost use Rattle.sim_territory.specs.Floods.{AllWait, Fills, ground_of, ground_size, IsHeldCell, Spreads, StepsOn, Wets};
 
     /// It has come to no cell yet.
     pub fn new(alloc: Global, width: u16, depth: u16) -> Result<Flood, OutOfMemory>
@@ -93,8 +93,7 @@ impl Flood {
 
     // Goes on from a cell in one direction, if the same player holds where that leads.
     fn step(&mut self, holders: &[u8], from: Cell, which: u8) -> Result<(), OutOfMemory>
-        requires full { length holders.now ≡ self.old.width * self.old.depth }
-        requires from { IsOnGround (ground_size self.old) from }
+        requires held { IsHeldCell self.old holders.now from }
         requires straight { which < 4 }
         ensures { OnOk result (StepsOn (ground_of self.old holders.now) self.old self.new from which) }
     {
@@ -106,8 +105,7 @@ impl Flood {
 
     // Goes on from a cell in all four directions.
     fn spread(&mut self, holders: &[u8], from: Cell) -> Result<(), OutOfMemory>
-        requires full { length holders.now ≡ self.old.width * self.old.depth }
-        requires from { IsOnGround (ground_size self.old) from }
+        requires { IsHeldCell self.old holders.now from }
         ensures { OnOk result (Spreads (ground_of self.old holders.now) self.old self.new from 4) }
     {
         for which in 0..4u8 {

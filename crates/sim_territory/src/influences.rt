@@ -23,26 +23,16 @@ pub struct Influences {
 }
 
 impl Influences {
-    ghost use Rattle.std.specs.Prelude.{◌≡◌, ◌*◌, ◌≤◌, replicate, IfOk};
-    ghost use Rattle.sim_territory.specs.{Common.IsOnGround, Common.IsSetup, Holders.holder_by};
+    ghost use Rattle.std.specs.Prelude.{◌≡◌, ◌*◌, replicate, IfOk};
+    ghost use Rattle.sim_territory.specs.{Common.IsOnGround, Holders.holder_by};
     ghost use Rattle.sim_territory.specs.Tables.{AreShifted, FitShifts, FitsShift, IsShifted, size_in, sum_at};
 
-    /// Nobody has influence anywhere, and nobody holds a cell.
-    pub fn new(
-        alloc: Global,
-        width: u16,
-        depth: u16,
-        players: u8,
-    ) -> Result<Influences, OutOfMemory>
-        requires narrow { width ≤ 256 }
-        requires shallow { depth ≤ 256 }
-        requires few { players ≤ 8 }
-        ensures size { IfOk result (λ made. size_in made.sums ≡ record { width = width; depth = depth }) }
-        ensures players { IfOk result (λ made. made.sums.players ≡ players) }
-        ensures sums { IfOk result (λ made. made.sums.items.items ≡ replicate (players * (width * depth)) 0) }
+    /// Nobody holds a cell where nobody has influence.
+    pub fn new(alloc: Global, sums: Sums) -> Result<Influences, OutOfMemory>
+        requires { sums.items.items ≡ replicate (sums.players * (sums.width * sums.depth)) 0 }
+        ensures { IfOk result (λ made. made.sums ≡ sums) }
     {
-        let sums = Sums::new(alloc, width, depth, players)?;
-        let holders = nobody(alloc, width, depth)?;
+        let holders = nobody(alloc, sums.width, sums.depth)?;
         Ok(Influences { sums, holders })
     }
 
@@ -56,8 +46,7 @@ impl Influences {
 
     // Follows one shift, and finds the holders within its reach.
     fn shift(&mut self, setup: &Setup, shift: &Shift)
-        requires limits { IsSetup setup.now }
-        requires fits { FitsShift setup.now shift.now self.old.sums }
+        requires { FitsShift setup.now shift.now self.old.sums }
         ensures { IsShifted setup.now shift.now self.old.sums self.new.sums }
     {
         self.sums.shift(setup, shift);
@@ -65,37 +54,18 @@ impl Influences {
             .find_near(&mut self.holders, setup, &mark_in(shift));
     }
 
-    // Follows shifts one by one.
-    fn follow_few(&mut self, setup: &Setup, shifts: &[Shift])
-        requires limits { IsSetup setup.now }
-        requires fit { FitShifts setup.now shifts.now self.old.sums }
+    /// Follows the shifts of a trail: few one by one, and else all before the holders are found.
+    pub fn follow(&mut self, setup: &Setup, shifts: &[Shift])
+        requires { FitShifts setup.now shifts.now self.old.sums }
         ensures { AreShifted setup.now shifts.now self.old.sums self.new.sums }
     {
+        if shifts.len() > FEW {
+            self.sums.follow(setup, shifts);
+            self.sums.find_all(&mut self.holders);
+            return;
+        }
         for shift in shifts {
             self.shift(setup, shift);
-        }
-    }
-
-    // Follows all shifts, and then finds all holders.
-    fn follow_all(&mut self, setup: &Setup, shifts: &[Shift])
-        requires limits { IsSetup setup.now }
-        requires fit { FitShifts setup.now shifts.now self.old.sums }
-        ensures { AreShifted setup.now shifts.now self.old.sums self.new.sums }
-    {
-        self.sums.follow(setup, shifts);
-        self.sums.find_all(&mut self.holders);
-    }
-
-    /// Follows the shifts of a trail.
-    pub fn follow(&mut self, setup: &Setup, shifts: &[Shift])
-        requires limits { IsSetup setup.now }
-        requires fit { FitShifts setup.now shifts.now self.old.sums }
-        ensures { AreShifted setup.now shifts.now self.old.sums self.new.sums }
-    {
-        if shifts.len() <= FEW {
-            self.follow_few(setup, shifts);
-        } else {
-            self.follow_all(setup, shifts);
         }
     }
 }

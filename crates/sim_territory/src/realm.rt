@@ -6,6 +6,7 @@ ghost use Rattle.sim_territory.specs.{Common.IsSetup, Common.IsValid, Realms.hol
 use crate::flood::Flood;
 use crate::influences::Influences;
 use crate::roots::wet_roots;
+use crate::sums::Sums;
 use sim_base::{Items, OutOfMemory, Setup, State};
 use sim_trail::Trail;
 use std::alloc::Global;
@@ -39,7 +40,8 @@ impl<'a> Realm<'a> {
         requires { IsSetup setup.now }
         ensures { IfOk result (λ realm. realm ≡ record { setup = setup.now; marks = [] }) }
     {
-        let influences = Influences::new(alloc, setup.land.width, setup.land.depth, setup.players)?;
+        let sums = Sums::new(alloc, setup.land.width, setup.land.depth, setup.players)?;
+        let influences = Influences::new(alloc, sums)?;
         Ok(Realm {
             alloc,
             setup,

@@ -23,9 +23,10 @@ pub struct Sums {
 
 impl Sums {
     ghost use Rattle.std.specs.Prelude.{◌≡◌, ◌+◌, ◌-◌, ◌*◌, ◌<◌, ◌≤◌, replicate, IfOk, ◌==◌, slice_range};
-    ghost use Rattle.sim_territory.specs.{Buildings.share_of, Found.AreFound, Found.AreFoundNear, Holders.holder_by, Keeping.AreHolders};
-    ghost use Rattle.sim_territory.specs.{Common.IsOnGround, Common.IsSetup, Common.place_of, Tables.size_in, Tables.sum_at, Tables.sum_place, Tables.SumsMove};
-    ghost use Rattle.sim_territory.specs.Tables.{AreShifted, FitShifts, FitsShift, in_part, IsMarkIn, IsPlaceIn, IsShifted, MaySumsMove, share_by, share_where};
+    ghost use Rattle.sim_territory.specs.{Buildings.share_of, Found.AreFound, Found.AreFoundNear, Found.IsBlockOf, Holders.holder_by, Keeping.AreHolders};
+    ghost use Rattle.sim_territory.specs.{Common.IsOnGround, Common.place_of, Tables.share_by, Tables.share_where, Tables.size_in, Tables.sum_at};
+    ghost use Rattle.sim_territory.specs.Tables.{AreShifted, FitShifts, FitsShift, in_part, IsEntityOf, IsPlaceIn, IsShifted, MayShiftRow, MaySumsMove};
+    ghost use Rattle.sim_territory.specs.Tables.{sum_place, SumsMove};
 
     /// Nobody has influence anywhere.
     pub fn new(alloc: Global, width: u16, depth: u16, players: u8) -> Result<Sums, OutOfMemory>
@@ -98,10 +99,7 @@ impl Sums {
 
     // Finds who holds the cells of a row within the columns, from the first to before the end.
     fn find_row(&self, holders: &mut Vec<u8>, columns: (u16, u16), z: u16)
-        requires full { vec_len holders.old ≡ self.now.width * self.now.depth }
-        requires order { columns.0 ≤ columns.1 }
-        requires east { columns.1 ≤ self.now.width }
-        requires row { z < self.now.depth }
+        requires { IsBlockOf self.now holders.old columns (z, z + 1) }
         ensures { AreFound self.now columns (z, z + 1) holders.old.items holders.new.items }
     {
         for x in columns.0..columns.1 {
@@ -113,11 +111,7 @@ impl Sums {
 
     // Finds who holds the cells within the columns and the rows, each from the first to before the end.
     fn find_holders(&self, holders: &mut Vec<u8>, columns: (u16, u16), rows: (u16, u16))
-        requires full { vec_len holders.old ≡ self.now.width * self.now.depth }
-        requires west { columns.0 ≤ columns.1 }
-        requires east { columns.1 ≤ self.now.width }
-        requires south { rows.0 ≤ rows.1 }
-        requires north { rows.1 ≤ self.now.depth }
+        requires { IsBlockOf self.now holders.old columns rows }
         ensures { AreFound self.now columns rows holders.old.items holders.new.items }
     {
         for z in rows.0..rows.1 {
@@ -136,8 +130,7 @@ impl Sums {
     /// Finds who holds the cells where an entity may give something.
     pub fn find_near(&self, holders: &mut Vec<u8>, setup: &Setup, mark: &Mark)
         requires full { vec_len holders.old ≡ self.now.width * self.now.depth }
-        requires limits { IsSetup setup.now }
-        requires mark { IsMarkIn self.now mark.now }
+        requires entity { IsEntityOf setup.now mark.now self.now }
         ensures { AreFoundNear setup.now mark.now self.now holders.old.items holders.new.items }
     {
         if let Some(building) = Building::of(setup, mark) {
@@ -159,10 +152,8 @@ impl Sums {
 
     // A building comes or goes at the cells of a row to the west of its own column, from a column on.
     fn shift_west(&mut self, building: &Building, z: u16, west: u16, comes: bool)
-        requires place { IsPlaceIn self.old building.now.owner building.now.cell }
-        requires row { z < self.old.depth }
+        requires may { MayShiftRow comes building.now z (in_part z west building.now.cell.x) self.old }
         requires order { west ≤ building.now.cell.x }
-        requires may { MaySumsMove comes (share_where (in_part z west building.now.cell.x) building.now) self.old }
         ensures { SumsMove comes (share_where (in_part z west building.now.cell.x) building.now) self.old self.new }
     {
         let it = *building;
@@ -178,11 +169,9 @@ impl Sums {
 
     // A building comes or goes at the cells of a row from its own column on, to before a column.
     fn shift_east(&mut self, building: &Building, z: u16, east: u16, comes: bool)
-        requires place { IsPlaceIn self.old building.now.owner building.now.cell }
-        requires row { z < self.old.depth }
+        requires may { MayShiftRow comes building.now z (in_part z building.now.cell.x east) self.old }
         requires order { building.now.cell.x ≤ east }
         requires most { east ≤ self.old.width }
-        requires may { MaySumsMove comes (share_where (in_part z building.now.cell.x east) building.now) self.old }
         ensures { SumsMove comes (share_where (in_part z building.now.cell.x east) building.now) self.old self.new }
     {
         let it = *building;
@@ -198,10 +187,7 @@ impl Sums {
 
     // A building comes or goes at the cells of a row.
     fn shift_row(&mut self, building: &Building, z: u16, comes: bool)
-        requires place { IsPlaceIn self.old building.now.owner building.now.cell }
-        requires row { z < self.old.depth }
-        requires near { building.now.reach ≤ 1280 }
-        requires may { MaySumsMove comes (share_where (λ c. c.z == z) building.now) self.old }
+        requires { MayShiftRow comes building.now z (λ c. c.z == z) self.old }
         ensures { SumsMove comes (share_where (λ c. c.z == z) building.now) self.old self.new }
     {
         let (west, east) = building.columns_of(z, self.width);
@@ -212,7 +198,6 @@ impl Sums {
     // A building comes or goes.
     fn shift_building(&mut self, building: &Building, comes: bool)
         requires place { IsPlaceIn self.old building.now.owner building.now.cell }
-        requires near { building.now.reach ≤ 1280 }
         requires may { MaySumsMove comes (share_of building.now) self.old }
         ensures { SumsMove comes (share_of building.now) self.old self.new }
     {
@@ -224,8 +209,7 @@ impl Sums {
 
     // An entity comes or goes.
     fn shift_mark(&mut self, setup: &Setup, mark: &Mark, comes: bool)
-        requires limits { IsSetup setup.now }
-        requires mark { IsMarkIn self.old mark.now }
+        requires entity { IsEntityOf setup.now mark.now self.old }
         requires may { MaySumsMove comes (share_by setup.now mark.now) self.old }
         ensures { SumsMove comes (share_by setup.now mark.now) self.old self.new }
     {
@@ -236,8 +220,7 @@ impl Sums {
 
     /// Follows one shift.
     pub fn shift(&mut self, setup: &Setup, shift: &Shift)
-        requires limits { IsSetup setup.now }
-        requires fits { FitsShift setup.now shift.now self.old }
+        requires { FitsShift setup.now shift.now self.old }
         ensures { IsShifted setup.now shift.now self.old self.new }
     {
         match shift {
@@ -248,8 +231,7 @@ impl Sums {
 
     /// Follows the shifts of a trail.
     pub fn follow(&mut self, setup: &Setup, shifts: &[Shift])
-        requires limits { IsSetup setup.now }
-        requires fit { FitShifts setup.now shifts.now self.old }
+        requires { FitShifts setup.now shifts.now self.old }
         ensures { AreShifted setup.now shifts.now self.old self.new }
     {
         for shift in shifts {

@@ -1,16 +1,20 @@
 -- One cell more is looked at.
-use Rattle.sim_territory.proofs.Common.{◌≡◌, List, [], Contains, refl, arith, Cell, Contains-push, ground_of, IsOnGround, nil_from_length, Size, subst, sym}
+use Rattle.sim_territory.proofs.Common.{◌≡◌, ◌*◌, length, List, [], Contains, refl, arith, Cell, Contains-push, ground_of, IsOnGround, nil_from_length}
+use Rattle.sim_territory.proofs.Common.{Size, subst, sym}
 use Rattle.sim_territory.proofs.Flooding.{filling_begins, filling_ends, filling_next, taken_less}
 use Rattle.sim_territory.proofs.flood.Flood.fill.Goals as goal
 
 pub loop-from-init : goal.loop-from-init
 loop-from-init c = filling_begins (ground_of c.args.self.now c.args.holders.now) c.args.self.now refl c.requires.all
 
-pub spread-requires-clause-from : goal.spread-requires-clause-from
-spread-requires-clause-from c =
+pub spread-requires : goal.spread-requires
+spread-requires c =
     let waited : Contains c.loop-from.self.waiting.items c.in-Some.from = subst (λ (xs : List Cell). Contains xs c.in-Some.from) (sym c.in-Some.ensures.items)
     (Contains-push c.pop.new.self.items c.in-Some.from) in
-    subst (λ (s : Size). IsOnGround s c.in-Some.from) (sym c.loop-from.invariant.size) (c.loop-from.invariant.on_ground c.in-Some.from waited)
+    record {
+      full = subst (λ (s : Size). length c.args.holders.now ≡ s.width * s.depth) (sym c.loop-from.invariant.size) c.requires.full;
+      from = subst (λ (s : Size). IsOnGround s c.in-Some.from) (sym c.loop-from.invariant.size) (c.loop-from.invariant.on_ground c.in-Some.from waited);
+    }
 
 pub loop-from-preserved : goal.loop-from-preserved
 loop-from-preserved c =

@@ -1,7 +1,13 @@
 -- One direction more is looked at.
-use Rattle.sim_territory.proofs.Common.{refl, ground_of, HeldGround, StepsOn, subst}
+use Rattle.sim_territory.proofs.Common.{◌≡◌, ◌*◌, length, refl, ground_of, HeldGround, IsOnGround, Size, StepsOn, subst, sym}
 use Rattle.sim_territory.proofs.Flooding.{ground-same, spread_ends, spread_more}
 use Rattle.sim_territory.proofs.flood.Flood.spread.Goals as goal
+
+pub step-requires-clause-held : goal.step-requires-clause-held
+step-requires-clause-held c = record {
+  full = subst (λ (s : Size). length c.args.holders.now ≡ s.width * s.depth) (sym c.loop-which.invariant.size) c.requires.full;
+  from = subst (λ (s : Size). IsOnGround s c.args.from) (sym c.loop-which.invariant.size) c.requires.from;
+}
 
 pub loop-which-preserved : goal.loop-which-preserved
 loop-which-preserved c =

@@ -3,8 +3,8 @@ use Rattle.sim_territory.proofs.Common.{List, AreInfluences, AreShifted, FitShif
 use Rattle.sim_territory.proofs.Keeping.{realm_fits, realm_follows}
 use Rattle.sim_territory.proofs.realm.Realm.follow.Goals as goal
 
-pub follow-requires-2-clause-fit : goal.follow-requires-2-clause-fit
-follow-requires-2-clause-fit c =
+pub follow-requires-2 : goal.follow-requires-2
+follow-requires-2 c =
     let in_it = c.self.inside in
     let valid = subst (λ (r : RealmOf). IsValid r.setup c.args.state.now) (sym c.self.view_is) c.requires in
     subst (λ (xs : List Shift). FitShifts in_it.setup.now xs in_it.influences.sums) (sym (c.as_slice.ensures ∙ c.in_ok-shifts.ensures.shifts))

@@ -8,6 +8,15 @@ loop-z-init c = record {
   found = found_none c.args.self.now c.args.columns (c.args.rows.0, c.args.rows.0) c.args.holders.now.items (no_row c.args.columns c.args.rows.0);
 }
 
+pub find_row-requires : goal.find_row-requires
+find_row-requires c = record {
+  full = c.loop-z.invariant.full;
+  west = c.requires.west;
+  east = c.requires.east;
+  south = omega arith;
+  north = let north = c.requires.north in let below = c.loop-z-test.true in omega arith;
+}
+
 pub loop-z-preserved : goal.loop-z-preserved
 loop-z-preserved c = record {
   full = omega (arith, c.loop-z.invariant.full, c.find_row.ensures.full, c.loop-z.holders.ok.0, c.find_row.new.holders.ok.0);

@@ -16,12 +16,13 @@ loop-x-preserved c =
     record {
       full = c.loop-x.invariant.full;
       found = found_cell c.args.self.now c.args.columns.0 c.loop-x.x c.args.z c.args.holders.now.items c.loop-x.holders.items c.loop-x.invariant.found
-          (record { east = omega arith; north = c.requires.row }) full c.cell_place-place.result c.holder.result c.cell_place-place.ensures.place
+          (record { east = omega arith; north = let north = c.requires.north in omega arith })
+          full c.cell_place-place.result c.holder.result c.cell_place-place.ensures.place
           c.holder.ensures;
     }
 
 pub returns : goal.returns
 returns c =
-    let end : c.loop-x.x ≡ c.args.columns.1 = omega (arith, c.loop-x.auto.x-end, c.requires.order) in
+    let end : c.loop-x.x ≡ c.args.columns.1 = omega (arith, c.loop-x.auto.x-end, c.requires.west) in
     subst (λ (n : ℕ). AreFound c.args.self.now (c.args.columns.0, n) (c.args.z, c.args.z + 1) c.args.holders.now.items c.loop-x.holders.items) end
     c.loop-x.invariant.found

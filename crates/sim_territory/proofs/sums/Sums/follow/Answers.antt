@@ -5,9 +5,9 @@ use Rattle.sim_territory.proofs.sums.Sums.follow.Goals as goal
 pub loop-shift-init : goal.loop-shift-init
 loop-shift-init c = shifts_begin c.args.setup.now c.args.shifts.now c.args.self.now
 
-pub shift-requires-clause-fits : goal.shift-requires-clause-fits
-shift-requires-clause-fits c = shift_fits c.args.setup.now c.args.shifts.now c.args.self.now c.loop-shift.self c.loop-shift.shift-index _ c.loop-shift-test.true
-    c.loop-shift.invariant c.requires.fit
+pub shift-requires : goal.shift-requires
+shift-requires c = shift_fits c.args.setup.now c.args.shifts.now c.args.self.now c.loop-shift.self c.loop-shift.shift-index _ c.loop-shift-test.true
+    c.loop-shift.invariant c.requires
 
 pub loop-shift-preserved : goal.loop-shift-preserved
 loop-shift-preserved c =

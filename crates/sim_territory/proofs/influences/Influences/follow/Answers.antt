@@ -1,13 +1,13 @@
 -- One shift more is followed.
 use Rattle.sim_territory.proofs.Following.{shift_fits, shift_followed, shifts_begin, shifts_followed}
-use Rattle.sim_territory.proofs.influences.Influences.follow_few.Goals as goal
+use Rattle.sim_territory.proofs.influences.Influences.follow.Goals as goal
 
 pub loop-shift-init : goal.loop-shift-init
 loop-shift-init c = shifts_begin c.args.setup.now c.args.shifts.now c.args.self.now.sums
 
-pub shift-requires-clause-fits : goal.shift-requires-clause-fits
-shift-requires-clause-fits c = shift_fits c.args.setup.now c.args.shifts.now c.args.self.now.sums c.loop-shift.self.sums c.loop-shift.shift-index _
-    c.loop-shift-test.true c.loop-shift.invariant c.requires.fit
+pub shift-requires : goal.shift-requires
+shift-requires c = shift_fits c.args.setup.now c.args.shifts.now c.args.self.now.sums c.loop-shift.self.sums c.loop-shift.shift-index _
+    c.loop-shift-test.true c.loop-shift.invariant c.requires
 
 pub loop-shift-preserved : goal.loop-shift-preserved
 loop-shift-preserved c =
