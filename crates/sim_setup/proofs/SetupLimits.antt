@@ -10,7 +10,7 @@ use Rattle.sim_setup.proofs.Common.{are_distinct, arith, Data, falls_at, First, 
 use Rattle.sim_setup.proofs.Common.{leb-true, length-map, list_at, Meets, name_in, names_in, next_template, Node, numbered, numbered-All, numbered-length}
 use Rattle.sim_setup.proofs.Common.{◌≡◌, ℕ, ◌^◌, ◌<◌, ◌≤◌, true, ◌&&◌, List, [], length, nat_le, Some, None, Ok, Err, codes, All, Result, after, and_then_some}
 use Rattle.sim_setup.specs.{Commands.in_order, Commands.timeds_from, Entities.entities_in, Entities.entities_within, Entities.firsts_from, Sources.sources_in}
-use Rattle.sim_setup.specs.{Templates.few_sources, declared.fault.SetupFault.SetupFault, declared.passes.Lists.Lists, declared.rules.Rules.Rules}
+use Rattle.sim_setup.specs.{Templates.few_sources, declared.fault.SetupFault.SetupFault, declared.reading.Lists.Lists, declared.rules.Rules.Rules}
 use Rattle.sim_setup.specs.Setups.{commands_in, items_in, limits_in, lists_in, players_of, setup_in, setup_with}
 
 -- ---- the rules

@@ -2,7 +2,7 @@
 use Rattle.std.specs.Prelude.{ℕ, ◌-◌, List, length, if◌then◌else◌, ◌==◌, Ok, Err, codes, Result}
 use Rattle.sim_setup.specs.{Commands.in_order, Commands.timeds_from, Ground.land_in, Rules.rules_in, Shape.misplaced, Sources.sources_in}
 use Rattle.sim_setup.specs.{Entities.entities_in, Entities.firsts_from, Refusals.after, Refusals.need, Refusals.Refusal, Refusals.refusal, Refusals.unless_at}
-use Rattle.sim_setup.specs.{Templates.few_sources, Templates.roots_of, Templates.templates_from, declared.passes.Lists.Lists, declared.rules.Rules.Rules}
+use Rattle.sim_setup.specs.{Templates.few_sources, Templates.roots_of, Templates.templates_from, declared.reading.Lists.Lists, declared.rules.Rules.Rules}
 use Rattle.sim_setup.specs.Common.{Data, Land, list_at, md5, names_in, Origin, Setup, Timed, value_of}
 
 -- all owners but Gaia

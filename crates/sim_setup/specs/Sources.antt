@@ -1,6 +1,7 @@
 -- The sources of the templates of a match file.
-use Rattle.std.specs.Prelude.{◌≡◌, ◌≤◌, true, List, [], None, codes, Option, Result}
-use Rattle.sim_setup.specs.Common.{Data, is_sound, levels, list_at, mark_of, Node, node_of, numbered, Origin, result_ok, Source, source_in}
+use Rattle.std.specs.Prelude.{◌≡◌, ◌≤◌, true, All, List, [], length, None, codes, Option, Result}
+use Rattle.sim_setup.specs.Common.{are_distinct, Data, is_sound, levels, list_at, mark_of, names_in, Node, node_of, numbered, Origin, origins_of, result_ok}
+use Rattle.sim_setup.specs.Common.{Source, source_in}
 use Rattle.sim_setup.specs.Refusals.{need, placed, Refusal}
 
 -- the source that an item is
@@ -23,3 +24,9 @@ pub record IsReady (n : Node) : Type 0 where
 
 abbrev pub IsReadySource : Source → Type 0
 IsReadySource source = IsReady (node_of source.tree)
+
+-- no more sources than there may be templates, with different names, each of which can be laid over another
+pub record AreResolvable (sources : List Source) : Type 0 where
+  pub few : length sources ≤ 256
+  pub distinct : are_distinct (names_in (origins_of sources)) ≡ true
+  pub ready : All IsReadySource sources

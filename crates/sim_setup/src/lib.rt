@@ -16,6 +16,7 @@
 //! - `templates`: code 7.
 //! - `entities`: codes 3 and 8.
 //! - `commands`, `crowd`: codes 9 and 10.
+//! - `reading`: codes 3 to 10 at the lists, which are read by the ground and the rules.
 //! - `passes`: all of them, one after another; and code 11.
 //! - `laws`: what the index of a refusal says of a list.
 #![tactic(auto)]
@@ -28,6 +29,7 @@ mod ground;
 mod laws;
 mod passes;
 mod players;
+mod reading;
 mod resolved;
 mod rules;
 mod shape;

@@ -1,36 +1,25 @@
 //! The passes over a match file, one after another in the order of their codes, so that the first code that applies is
 //! the answer.
 
-ghost use Rattle.std.specs.Prelude.{◌≡◌, ◌≤◌, true, false, ◌≢◌, [], map, length, IfSome, IfOk, None, All};
-ghost use Rattle.sim_setup.specs.{Entities.entities_in as entities_in_data, Meets.Meets, Shape.misplaced as misplaced_in, Templates.few_sources};
+ghost use Rattle.std.specs.Prelude.{◌≡◌, ◌≤◌, false, ◌≢◌, [], length, IfSome, IfOk, All};
+ghost use Rattle.sim_setup.specs.{Meets.Meets, Shape.misplaced as misplaced_in};
 ghost use Rattle.sim_setup.specs.{Setups.setup_of as setup_of_bytes, Setups.setup_with as setup_with_parts, Setups.without_commands, Sources.IsReadySource};
-ghost use Rattle.sim_setup.specs.Common.{are_distinct, is_utf8, IsSetup, IsTemplate, names_in, origins_of, view};
-ghost use Rattle.sim_setup.specs.Setups.{commands_in as commands_in_data, items_in as items_in_data, limits_in as limits_in_data, lists_in as lists_in_data};
-ghost use Rattle.sim_setup.specs.Setups.{players_of as players_of_land, session_setup_of as session_setup_of_bytes, setup_in as setup_in_data};
+ghost use Rattle.sim_setup.specs.Common.{is_utf8, IsSetup, IsTemplate, origins_of, view};
+ghost use Rattle.sim_setup.specs.Setups.{limits_in as limits_in_data};
+ghost use Rattle.sim_setup.specs.Setups.{session_setup_of as session_setup_of_bytes, setup_in as setup_in_data};
 
-use crate::commands::{in_order, timeds_from};
-use crate::entities::{entities_in, firsts_from};
 use crate::fault::SetupFault;
 use crate::ground::land_in;
-use crate::resolved::resolved;
+use crate::reading::{Lists, Reading, players_of};
 use crate::rules::{Rules, rules_in};
 use crate::shape::misplaced;
-use crate::sources::{are_few, sources_in};
-use crate::templates::templates_from;
+use crate::sources::sources_in;
 use md5::{Digest, Md5};
 use serde_json::Value;
-use sim_base::{Firsts, Land, Setup, Templates, Timeds};
-use sim_json::{list_at, value_of};
+use sim_base::{Land, Setup};
+use sim_json::value_of;
 use sim_tree::Source;
 use std::alloc::Global;
-
-/// The lists of a match, as a setup has them.
-#[derive(Debug, Drop)]
-pub struct Lists {
-    pub templates: Templates,
-    pub first: Firsts,
-    pub commands: Timeds,
-}
 
 /// The setup of the bytes of a match file, or the first code that refuses them, with the least index at which it
 /// applies.
@@ -94,7 +83,12 @@ fn limits_in(
 {
     let land = land_in(alloc, value)?;
     let rules = rules_in(value)?;
-    let lists = lists_in(alloc, &land, rules, sources, value)?;
+    let reading = Reading {
+        land: &land,
+        rules,
+        value,
+    };
+    let lists = reading.lists(alloc, sources)?;
     Ok(setup_with(id, land, rules, lists))
 }
 
@@ -115,78 +109,4 @@ fn setup_with(id: [u8; 16], land: Land, rules: Rules, lists: Lists) -> Setup
         first: lists.first,
         commands: lists.commands,
     }
-}
-
-fn lists_in(
-    alloc: Global,
-    land: &Land,
-    rules: Rules,
-    sources: &[Source<'_>],
-    value: &Value,
-) -> Result<Lists, SetupFault>
-    requires players { length land.now.masks ≤ 9 }
-    requires turns { rules.turns ≤ 65535 }
-    requires ready { All IsReadySource sources.now }
-    ensures value { Meets result (lists_in_data land.now rules (origins_of sources.now) (view value.now)) }
-    ensures many { few_sources (origins_of sources.now) ≡ None → result ≡ Err (SetupFault.Refused 3 7) }
-    ensures crowded { (few_sources (origins_of sources.now) ≢ None) × (entities_in_data (view value.now) ≡ None) → result ≡ Err (SetupFault.Refused 3 8) }
-    ensures templates { IfOk result (λ lists. All (IsTemplate (length lists.templates)) lists.templates) }
-{
-    if !are_few(sources) {
-        return Err(SetupFault::Refused { code: 3, index: 7 });
-    }
-    let Some(entities) = entities_in(value) else {
-        return Err(SetupFault::Refused { code: 3, index: 8 });
-    };
-    items_in(alloc, land, rules, sources, entities, value)
-}
-
-fn items_in(
-    alloc: Global,
-    land: &Land,
-    rules: Rules,
-    sources: &[Source<'_>],
-    entities: &[Value],
-    value: &Value,
-) -> Result<Lists, SetupFault>
-    requires players { length land.now.masks ≤ 9 }
-    requires turns { rules.turns ≤ 65535 }
-    requires few { length sources.now ≤ 256 }
-    requires distinct { are_distinct (names_in (origins_of sources.now)) ≡ true }
-    requires ready { All IsReadySource sources.now }
-    ensures value { Meets result (items_in_data land.now rules (origins_of sources.now) (map view entities.now) (view value.now)) }
-    ensures templates { IfOk result (λ lists. All (IsTemplate (length lists.templates)) lists.templates) }
-{
-    let library = resolved(alloc, sources)?;
-    let templates = templates_from(alloc, sources, &library)?;
-    let first = firsts_from(alloc, &library, land, players_of(land), entities)?;
-    let commands = commands_in(alloc, land, rules, value)?;
-    Ok(Lists {
-        templates,
-        first,
-        commands,
-    })
-}
-
-fn commands_in(
-    alloc: Global,
-    land: &Land,
-    rules: Rules,
-    value: &Value,
-) -> Result<Timeds, SetupFault>
-    requires players { length land.now.masks ≤ 9 }
-    requires turns { rules.turns ≤ 65535 }
-    ensures { Meets result (commands_in_data land.now rules (view value.now)) }
-{
-    let Some(items) = list_at(value, "commands") else {
-        return Err(SetupFault::Refused { code: 2, index: 9 });
-    };
-    in_order(timeds_from(alloc, rules.turns, players_of(land), items)?)
-}
-
-fn players_of(land: &Land) -> u8
-    requires { length land.now.masks ≤ 9 }
-    ensures { result ≡ players_of_land land.now }
-{
-    land.masks.as_slice().len().saturating_sub(1) as u8
 }

@@ -1,7 +1,6 @@
 //! Codes 4 to 6: the sources with all that they inherit.
 
-ghost use Rattle.std.specs.Prelude.{◌≡◌, ◌≤◌, true, length, All};
-ghost use Rattle.sim_setup.specs.{Common.are_distinct, Common.names_in, Common.origins_of, Meets.LibraryMeets, Meets.Refuses, Sources.IsReadySource};
+ghost use Rattle.sim_setup.specs.{Common.origins_of, Meets.LibraryMeets, Meets.Refuses, Sources.AreResolvable};
 ghost use Rattle.sim_setup.specs.Templates.{roots_of};
 
 use crate::fault::SetupFault;
@@ -11,9 +10,7 @@ use std::alloc::Global;
 
 /// The library of these sources, or the refusal of the first that has no resolved tree.
 pub fn resolved<'a>(alloc: Global, sources: &[Source<'a>]) -> Result<Library<'a>, SetupFault>
-    requires few { length sources.now ≤ 256 }
-    requires distinct { are_distinct (names_in (origins_of sources.now)) ≡ true }
-    requires ready { All IsReadySource sources.now }
+    requires { AreResolvable sources.now }
     ensures { LibraryMeets result (origins_of sources.now) (roots_of (origins_of sources.now)) }
 {
     match Library::resolve(alloc, sources) {

@@ -51,6 +51,17 @@ pub record IsAt (extent : Extent) (player : ℕ) (c : Cell) : Type 0 where
   pub last : player ≤ extent.players
   pub on : IsOnGround extent.size c
 
+-- one of the players
+pub record IsPlayerOf (extent : Extent) (player : ℕ) : Type 0 where
+  pub first : 1 ≤ player
+  pub last : player ≤ extent.players
+
+-- one of the players, and a row of the ground
+pub record IsRowOf (extent : Extent) (player z : ℕ) : Type 0 where
+  pub first : 1 ≤ player
+  pub last : player ≤ extent.players
+  pub row : z < extent.size.depth
+
 -- how many marks of a player see a cell, by the list of counts
 abbrev pub count_in : Extent → List ℕ → ℕ → Cell → ℕ
 count_in extent counts player c = slice_index counts (place_of extent.size player c)

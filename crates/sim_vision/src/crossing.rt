@@ -1,7 +1,7 @@
 //! What changes of an entity at a time: the mark that it leaves, and the mark that it takes.
 
 ghost use Rattle.std.specs.Prelude.{◌≡◌, ℕ, ◌<◌, ◌≤◌, false, ◌⊎◌, [], length, IfSome, MatchOption};
-ghost use Rattle.sim_vision.specs.{Common.Cell as ACell, Spans.is_in_span, Watching.BeginsFrom, Watching.BeginsWith, Watching.is_near};
+ghost use Rattle.sim_vision.specs.{Common.Cell as ACell, Spans.IsSpanWhere, Watching.BeginsFrom, Watching.BeginsWith, Watching.is_near};
 
 use crate::disc::Disc;
 use crate::span::Span;
@@ -75,9 +75,7 @@ fn crossing_from(old: Mark, rest: &[Shift]) -> (Crossing, &[Shift])
 pub fn span_of(discs: &[Disc], mark: &Option<Mark>, z: u16, width: u16) -> Span
     requires narrow { width ≤ 256 }
     requires known { IfSome mark.now (λ mark. (mark.cell.x < width) × (mark.template < length discs.now)) }
-    ensures cells { (x : ℕ) → x < width → is_in_span result x ≡ is_near discs.now mark.now (record { x = x; z = z }) }
-    ensures ordered { result.from ≤ result.to }
-    ensures within { result.to ≤ width }
+    ensures { IsSpanWhere width z (is_near discs.now mark.now) result }
 {
     match mark {
         None => Span::EMPTY,

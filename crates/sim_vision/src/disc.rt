@@ -2,7 +2,7 @@
 //! template.
 
 ghost use Rattle.std.specs.Prelude.{◌≡◌, ℕ, ◌+◌, ◌-◌, ◌*◌, ◌<◌, ◌≤◌, false, IfOk};
-ghost use Rattle.sim_vision.specs.{Common.Cell as ACell, Common.IsRoot, Spans.AreHalves, Spans.is_in_span, Vision.is_in_disc};
+ghost use Rattle.sim_vision.specs.{Common.Cell as ACell, Common.IsRoot, Spans.AreHalves, Spans.IsSpanWhere, Vision.is_in_disc};
 
 use crate::span::Span;
 use sim_base::{Cell, OutOfMemory, root};
@@ -42,9 +42,7 @@ impl Disc {
     pub fn span(&self, middle: Cell, z: u16, width: u16) -> Span
         requires narrow { width ≤ 256 }
         requires east { middle.x < width }
-        ensures cells { (x : ℕ) → x < width → is_in_span result x ≡ is_in_disc self.now middle (record { x = x; z = z }) }
-        ensures ordered { result.from ≤ result.to }
-        ensures within { result.to ≤ width }
+        ensures { IsSpanWhere width z (is_in_disc self.now middle) result }
     {
         let away = middle.z.abs_diff(z);
         if away > self.reach {

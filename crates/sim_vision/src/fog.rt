@@ -26,7 +26,8 @@ pub struct Fog {
 impl Fog {
     ghost use Rattle.{sim_vision.specs.Joining.is_missed, sim_vision.specs.Joining.is_set, sim_vision.specs.Spans.one_if, std.specs.List.zip};
     ghost use Rattle.std.specs.Prelude.{◌≡◌, ◌+◌, ◌-◌, ◌*◌, ◌<◌, ◌≤◌, false, map, length, replicate, IfOk, slice_range, All};
-    ghost use Rattle.sim_vision.specs.{Common.list_any, Fogs.extent_of, Fogs.IsSameExtent, Watching.IsTurned, Watching.IsTurnedAt, Watching.start_of};
+    ghost use Rattle.sim_vision.specs.{Common.list_any, Fogs.extent_of, Fogs.IsSameExtent, Fogs.Turns, Fogs.TurnsAt, Watching.start_of};
+    ghost use Rattle.sim_vision.specs.Watching.{IsPlayerOf, IsRowOf};
     ghost use Rattle.sim_vision.specs.Watching.{AreLit, CanFollow, CanTurn, CanTurnAt, HasFollowed, IsExtent, IsKnownCrossing, IsKnownShift, IsOwnedBy};
 
     /// Nothing is seen, and nothing explored.
@@ -50,36 +51,12 @@ impl Fog {
 
     // Where the row z of a player begins in both lists.
     fn start(&self, player: u8, z: u16) -> usize
-        requires first { 1 ≤ player }
-        requires last { player ≤ self.now.players }
-        requires row { z < self.now.depth }
+        requires { IsRowOf (extent_of self.now) player z }
         ensures start { result ≡ start_of (extent_of self.now).size player z }
         ensures within { result + self.now.width ≤ length self.now.counts.items }
     {
         let area = usize::from(self.width) * usize::from(self.depth);
         (usize::from(player) - 1) * area + usize::from(z) * usize::from(self.width)
-    }
-
-    /// The counts of a player, by z and then x.
-    pub fn counts(&self, player: u8) -> &[u16]
-        requires first { 1 ≤ player }
-        requires last { player ≤ self.now.players }
-        ensures { result.now ≡
-            slice_range self.now.counts.items ((player - 1) * (self.now.width * self.now.depth)) (player * (self.now.width * self.now.depth)) }
-    {
-        let (from, to) = self.part(player);
-        &self.counts[from..to]
-    }
-
-    /// The explored cells of a player, by z and then x.
-    pub fn explored(&self, player: u8) -> &[bool]
-        requires first { 1 ≤ player }
-        requires last { player ≤ self.now.players }
-        ensures { result.now ≡
-            slice_range self.now.flags.items ((player - 1) * (self.now.width * self.now.depth)) (player * (self.now.width * self.now.depth)) }
-    {
-        let (from, to) = self.part(player);
-        &self.flags[from..to]
     }
 
     /// Whether a cell that is counted has the byte 0.
@@ -113,10 +90,9 @@ impl Fog {
         Ok(bytes)
     }
 
-    // Where the part of a player begins in both lists, and where it ends.
-    fn part(&self, player: u8) -> (usize, usize)
-        requires first { 1 ≤ player }
-        requires last { player ≤ self.now.players }
+    /// Where the part of a player begins in both lists, and where it ends.
+    pub fn part(&self, player: u8) -> (usize, usize)
+        requires { IsPlayerOf (extent_of self.now) player }
         ensures from { result.0 ≡ (player - 1) * (self.now.width * self.now.depth) }
         ensures to { result.1 ≡ player * (self.now.width * self.now.depth) }
         ensures within { result.1 ≤ length self.now.counts.items }
@@ -149,9 +125,7 @@ impl Fog {
     fn turn(&mut self, discs: &[Disc], crossing: Crossing)
         requires known { IsKnownCrossing (extent_of self.old) discs.now crossing }
         requires can { CanTurn (extent_of self.old) discs.now crossing self.old.counts.items self.old.flags.items }
-        ensures extent { IsSameExtent self.old self.new }
-        ensures turned { IsTurned (extent_of self.old) discs.now crossing
-            self.old.counts.items self.new.counts.items self.old.flags.items self.new.flags.items }
+        ensures { Turns discs.now crossing self.old self.new }
     {
         let owner = crossing.owner();
         if owner == 0 {
@@ -167,13 +141,9 @@ impl Fog {
     fn turn_at(&mut self, discs: &[Disc], crossing: &Crossing, owner: u8, z: u16)
         requires known { IsKnownCrossing (extent_of self.old) discs.now crossing.now }
         requires owner { IsOwnedBy crossing.now owner }
-        requires player { 1 ≤ owner }
-        requires last { owner ≤ self.old.players }
-        requires row { z < self.old.depth }
+        requires row { IsRowOf (extent_of self.old) owner z }
         requires can { CanTurnAt (extent_of self.old) discs.now crossing.now z self.old.counts.items self.old.flags.items }
-        ensures extent { IsSameExtent self.old self.new }
-        ensures turned { IsTurnedAt (extent_of self.old) discs.now crossing.now z
-            self.old.counts.items self.new.counts.items self.old.flags.items self.new.flags.items }
+        ensures { TurnsAt discs.now crossing.now z self.old self.new }
     {
         let start = self.start(owner, z);
         let old = span_of(discs, &crossing.old, z, self.width);

@@ -2,19 +2,16 @@
 //! sees there changes. Cells that are in both spans are not touched.
 
 ghost use Rattle.std.specs.Prelude.{◌≡◌, ℕ, ◌+◌, ◌<◌, ◌≤◌, true, false, not, ◌&&◌, ◌||◌, length, slice_index, slice_index_or};
-ghost use Rattle.sim_vision.specs.{Spans.is_in_row, Spans.is_within, Spans.one_if, Watching.IsRowTurned};
+ghost use Rattle.sim_vision.specs.{Spans.CanRaise, Spans.is_in_row, Spans.is_within, Spans.IsSpanOf, Spans.one_if, Watching.IsRowTurned};
 
 use crate::span::Span;
 
 /// Leaves the old span and takes the new one, in a row that begins at this place.
 pub fn turn_row(counts: &mut [u16], flags: &mut [bool], start: usize, old: Span, new: Span)
-    requires flags { length flags.old ≡ length counts.old }
-    requires old_within { start + old.to ≤ length counts.old }
-    requires new_within { start + new.to ≤ length counts.old }
-    requires old_ordered { old.from ≤ old.to }
-    requires new_ordered { new.from ≤ new.to }
+    requires old { IsSpanOf start old (length counts.old) }
+    requires new { IsSpanOf start new (length counts.old) }
     requires counted { (k : ℕ) → is_in_row start old k ≡ true → 0 < slice_index counts.old k }
-    requires room { (k : ℕ) → is_in_row start new k ≡ true → slice_index counts.old k < 65535 }
+    requires can { CanRaise (is_in_row start new) counts.old flags.old }
     requires seen { (k : ℕ) → is_in_row start old k ≡ true → slice_index_or flags.old k false ≡ true }
     ensures { IsRowTurned start old new counts.old counts.new flags.old flags.new }
 {
@@ -24,9 +21,8 @@ pub fn turn_row(counts: &mut [u16], flags: &mut [bool], start: usize, old: Span,
 
 // Counts one less at each cell of a span that is not in the other.
 fn lower_outside(counts: &mut [u16], start: usize, span: Span, other: Span)
-    requires within { start + span.to ≤ length counts.old }
-    requires ordered { span.from ≤ span.to }
-    requires other_ordered { other.from ≤ other.to }
+    requires span { IsSpanOf start span (length counts.old) }
+    requires other { other.from ≤ other.to }
     requires counted { (k : ℕ) → is_in_row start span k ≡ true → 0 < slice_index counts.old k }
     ensures { (k : ℕ) → slice_index counts.new k + one_if (is_in_row start span k && not (is_in_row start other k)) ≡ slice_index counts.old k }
 {
@@ -46,11 +42,9 @@ fn lower_outside(counts: &mut [u16], start: usize, span: Span, other: Span)
 
 // Counts one more at each cell of a span that is not in the other, and sets its flag.
 fn raise_outside(counts: &mut [u16], flags: &mut [bool], start: usize, span: Span, other: Span)
-    requires flags { length flags.old ≡ length counts.old }
-    requires within { start + span.to ≤ length counts.old }
-    requires ordered { span.from ≤ span.to }
-    requires other_ordered { other.from ≤ other.to }
-    requires room { (k : ℕ) → is_in_row start span k ≡ true → slice_index counts.old k < 65535 }
+    requires span { IsSpanOf start span (length counts.old) }
+    requires other { other.from ≤ other.to }
+    requires can { CanRaise (is_in_row start span) counts.old flags.old }
     ensures counts { (k : ℕ) → slice_index counts.new k ≡ slice_index counts.old k + one_if (is_in_row start span k && not (is_in_row start other k)) }
     ensures flags { (k : ℕ) → slice_index_or flags.new k false
         ≡ (slice_index_or flags.old k false || (is_in_row start span k && not (is_in_row start other k))) }
@@ -82,9 +76,8 @@ fn lower(counts: &mut [u16], from: usize, to: usize)
 }
 
 fn raise(counts: &mut [u16], flags: &mut [bool], from: usize, to: usize)
-    requires flags { length flags.old ≡ length counts.old }
     requires within { to ≤ length counts.old }
-    requires room { (k : ℕ) → is_within from to k ≡ true → slice_index counts.old k < 65535 }
+    requires can { CanRaise (is_within from to) counts.old flags.old }
     ensures counts { (k : ℕ) → slice_index counts.new k ≡ slice_index counts.old k + one_if (is_within from to k) }
     ensures flags { (k : ℕ) → slice_index_or flags.new k false ≡ (slice_index_or flags.old k false || is_within from to k) }
 {

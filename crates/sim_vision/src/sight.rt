@@ -134,7 +134,8 @@ impl<'a> Sight<'a> {
         requires last { player ≤ self.now.setup.players }
         ensures { result.now ≡ part_of self.now.setup player self.now.counts }
     {
-        self.fog.counts(player)
+        let (from, to) = self.fog.part(player);
+        &self.fog.counts[from..to]
     }
 
     /// Whether a player has explored each cell, by z and then x.
@@ -143,7 +144,8 @@ impl<'a> Sight<'a> {
         requires last { player ≤ self.now.setup.players }
         ensures { result.now ≡ part_of self.now.setup player self.now.explored }
     {
-        self.fog.explored(player)
+        let (from, to) = self.fog.part(player);
+        &self.fog.flags[from..to]
     }
 
     /// The file of explored cells: one byte for each cell by player, then z, then x. It is taken over at a state with these

@@ -3,17 +3,26 @@ use Rattle.sim_vision.proofs.Common.{◌≡◌, ℕ, ◌+◌, ◌-◌, ◌*◌, 
 use Rattle.sim_vision.proofs.Discs.{far_cell, gap, near_row}
 use Rattle.sim_vision.proofs.disc.Disc.span.Goals as goal
 
-pub returns-then-away-self-clause-cells : goal.returns-then-away-self-clause-cells
-returns-then-away-self-clause-cells c = λ x on.
+pub returns-then-away-self : goal.returns-then-away-self
+returns-then-away-self c =
     let far : c.args.self.now < gap c.args.middle.z c.args.z = omega (arith, c.abs_diff-away.ensures, c.if-away-self.true, c.self.view_is) in
-    and_right (leb 0 x) (ltb x 0) (le-ltb x 0 (omega arith)) ∙ sym (far_cell c.args.self.now c.args.middle (record { x = x; z = c.args.z }) far)
+    record {
+      cells = λ x on. and_right (leb 0 x) (ltb x 0) (le-ltb x 0 (omega arith))
+          ∙ sym (far_cell c.args.self.now c.args.middle (record { x = x; z = c.args.z }) far);
+      ordered = omega arith;
+      within = omega arith;
+    }
 
-pub returns-clause-cells : goal.returns-clause-cells
-returns-clause-cells c = λ x on.
+pub returns : goal.returns
+returns c =
     let from : c.saturating_sub.result ≡ c.args.middle.x - c.half-half.result = omega (arith, c.saturating_sub.ensures) in
     let to : c.min.result ≡ min (c.args.middle.x + c.half-half.result + 1) c.args.width = omega (arith, c.min.ensures) in
     let away : c.abs_diff-away.result ≡ gap c.args.middle.z c.args.z = omega (arith, c.abs_diff-away.ensures) in
     let near : c.abs_diff-away.result ≤ c.args.self.now = omega (arith, c.if-away-self.false, c.self.view_is) in
-    (λ i. is_in_span (record { from = from i; to = to i }) x)
-    ∙ near_row c.args.self.now c.abs_diff-away.result c.half-half.result c.args.middle.x c.args.width x c.half-half.ensures.root near on
-    ∙ ap (λ (n : ℕ). leb (gap c.args.middle.x x * gap c.args.middle.x x + n * n) (c.args.self.now * c.args.self.now)) away
+    record {
+      cells = λ x on. (λ i. is_in_span (record { from = from i; to = to i }) x)
+          ∙ near_row c.args.self.now c.abs_diff-away.result c.half-half.result c.args.middle.x c.args.width x c.half-half.ensures.root near on
+          ∙ ap (λ (n : ℕ). leb (gap c.args.middle.x x * gap c.args.middle.x x + n * n) (c.args.self.now * c.args.self.now)) away;
+      ordered = omega (arith, from, to);
+      within = omega (arith, to);
+    }
