@@ -1,3 +1,4 @@
+pub mod Battles
 pub mod Fights
 pub mod Finds
 pub mod Nearest

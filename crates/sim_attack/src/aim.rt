@@ -6,14 +6,15 @@
 
 ghost use Rattle.{sim_plans.specs.SceneWords.Stands, sim_system.specs.Answers.seen_from};
 ghost use Rattle.std.specs.{Prelude.◌≡◌, Prelude.◌++◌, Prelude.IfOk, Prelude.OnOk, Prelude.IsSome, Prelude.MatchOption, Prelude.Some, Result.ForOk};
-ghost use Rattle.sim_attack.specs.{Finds.AreFound, Finds.nearest_from, Nearest.better_of, Nearest.nearest_of};
+ghost use Rattle.sim_attack.specs.{Battles.Knows, Battles.MayLook, Finds.AreFound, Finds.nearest_from, Nearest.better_of, Nearest.nearest_of};
 ghost use Rattle.sim_base.specs.{Aim.square_to as square_to_by, Limits.IsSetup, Places.IsPlaced};
-ghost use Rattle.sim_base.specs.{Rows.arms_of as arms_by, Rows.row_of, Rows.target_of as target_by, Validity.IsKnownRow, Validity.IsLooselyValid};
+ghost use Rattle.sim_base.specs.{Rows.arms_of as arms_by, Rows.row_of, Rows.target_of as target_by, Validity.IsKnownRow};
 ghost use Rattle.sim_base.specs.Aim.{aimed, is_idle as is_idle_by, lets_go as lets_go_by, may_take as may_take_by, reaches as reaches_by};
 ghost use Rattle.sim_plans.specs.{PlanLaws.IsPlanOf, Plans.aim_changes_of, Plans.aim_plan, Plans.next_target};
 
+use crate::battle::Battle;
 use crate::finds::Finds;
-use sim_base::{Arms, Changes, Ids, Items, OutOfMemory, Point, Row, Setup, State, square};
+use sim_base::{Arms, Changes, Ids, Items, OutOfMemory, Point, Row, Setup, square};
 use sim_plans::{
     RowIndex, Scene, arms_of, is_enemy_of, is_going, is_holding, is_near, push_target, push_turn,
     target_of,
@@ -52,14 +53,16 @@ fn push_aim(
     scene: &Scene<'_>,
     row: &Row,
 ) -> Result<(), OutOfMemory>
-    requires stands { Stands scene.now ⟦<dyn System as System>⟧ }
-    requires row { IsKnownRow 0 scene.now.setup.now scene.now.state.now.rows row.now }
-    requires found { row_of scene.now.state.now row.now.id ≡ Some row.now }
-    requires finds { AreFound scene.now.setup.now scene.now.state.now finds.old.kept.items }
+    requires can { MayLook scene.now row.now finds.old.kept.items ⟦<dyn System as System>⟧ }
     ensures changes { OnOk result (changes.new ≡ changes.old ++ aim_changes_of scene.now.setup.now scene.now.state.now row.now) }
     ensures finds { AreFound scene.now.setup.now scene.now.state.now finds.new.kept.items }
 {
-    if lets_go(index, scene.setup, scene.state, row) {
+    let battle = Battle {
+        setup: scene.setup,
+        state: scene.state,
+        index,
+    };
+    if battle.lets_go(row) {
         let target = next_target_of(finds, index, scene, row)?;
         return push_turn(changes, target, row);
     }
@@ -77,10 +80,7 @@ fn next_target_of(
     scene: &Scene<'_>,
     row: &Row,
 ) -> Result<u32, OutOfMemory>
-    requires stands { Stands scene.now ⟦<dyn System as System>⟧ }
-    requires row { IsKnownRow 0 scene.now.setup.now scene.now.state.now.rows row.now }
-    requires found { row_of scene.now.state.now row.now.id ≡ Some row.now }
-    requires finds { AreFound scene.now.setup.now scene.now.state.now finds.old.kept.items }
+    requires can { MayLook scene.now row.now finds.old.kept.items ⟦<dyn System as System>⟧ }
     ensures target { IfOk result (λ target. target ≡ next_target scene.now.setup.now scene.now.state.now row.now (arms_by scene.now.setup.now row.now)) }
     ensures finds { AreFound scene.now.setup.now scene.now.state.now finds.new.kept.items }
 {
@@ -103,11 +103,8 @@ fn nearest_seen(
     row: &Row,
     arms: &Arms,
 ) -> Result<u32, OutOfMemory>
-    requires stands { Stands scene.now ⟦<dyn System as System>⟧ }
-    requires row { IsKnownRow 0 scene.now.setup.now scene.now.state.now.rows row.now }
-    requires found { row_of scene.now.state.now row.now.id ≡ Some row.now }
+    requires can { MayLook scene.now row.now finds.old.kept.items ⟦<dyn System as System>⟧ }
     requires arms { arms_by scene.now.setup.now row.now ≡ Some arms.now }
-    requires finds { AreFound scene.now.setup.now scene.now.state.now finds.old.kept.items }
     ensures target { IfOk result (λ target. target ≡ nearest_from scene.now.setup.now scene.now.state.now row.now.owner row.now.at arms.now.vision) }
     ensures finds { AreFound scene.now.setup.now scene.now.state.now finds.new.kept.items }
 {
@@ -115,7 +112,12 @@ fn nearest_seen(
         return Ok(target);
     }
     let ids = seen_by(scene, row.id)?;
-    let target = nearest(index, scene.setup, scene.state, row, ids.as_slice());
+    let battle = Battle {
+        setup: scene.setup,
+        state: scene.state,
+        index,
+    };
+    let target = battle.nearest(row, ids.as_slice());
     finds.keep(row, arms.vision, target)?;
     Ok(target)
 }
@@ -148,21 +150,47 @@ fn seen_by(scene: &Scene<'_>, id: u32) -> Result<Ids, OutOfMemory>
     }
 }
 
-// The nearest of these rows, of several the one with the least id, or 0.
-fn nearest(index: &RowIndex, setup: &Setup, state: &State, row: &Row, ids: &[u32]) -> u32
-    requires limits { IsSetup setup.now }
-    requires valid { IsLooselyValid setup.now state.now }
-    requires row { IsKnownRow 0 setup.now state.now.rows row.now }
-    ensures { result ≡ nearest_of state.now row.now ids.now }
-{
-    let mut best = None;
-    for id in ids {
-        let far = square_to(index, setup, state, row, *id);
-        best = Some(better(best, far, *id));
+impl Battle<'_> {
+    // Whether the row lets go of its target: one that is no enemy of its owner, or that it does not reach from the place that it
+    // holds.
+    fn lets_go(&self, row: &Row) -> bool
+        requires { Knows self.now row.now }
+        ensures { result ≡ lets_go_by self.now.setup.now row.now (row_of self.now.state.now (target_by row.now)) }
+    {
+        match self.index.find_row(self.state, target_of(row)) {
+            Some(target) => {
+                !is_enemy_of(self.setup, row.owner, target.owner)
+                    || is_holding(row) && !reaches(self.setup, row, &target.at)
+            }
+            None => false,
+        }
     }
-    match best {
-        Some(seen) => seen.id,
-        None => 0,
+
+    // The nearest of these rows, of several the one with the least id, or 0.
+    fn nearest(&self, row: &Row, ids: &[u32]) -> u32
+        requires { Knows self.now row.now }
+        ensures { result ≡ nearest_of self.now.state.now row.now ids.now }
+    {
+        let mut best = None;
+        for id in ids {
+            let far = self.square_to(row, *id);
+            best = Some(better(best, far, *id));
+        }
+        match best {
+            Some(seen) => seen.id,
+            None => 0,
+        }
+    }
+
+    // The square of the distance to the row with this id, 0 where it is not there.
+    fn square_to(&self, row: &Row, id: u32) -> u64
+        requires { Knows self.now row.now }
+        ensures { result ≡ square_to_by self.now.state.now row.now id }
+    {
+        match self.index.find_row(self.state, id) {
+            Some(other) => square(other.at, row.at),
+            None => 0,
+        }
     }
 }
 
@@ -180,36 +208,6 @@ fn better(best: Option<Candidate>, far: u64, id: u32) -> Candidate
     match best {
         Some(seen) if (seen.far, seen.id) <= (far, id) => seen,
         _ => Candidate { far, id },
-    }
-}
-
-// The square of the distance to the row with this id, 0 where it is not there.
-fn square_to(index: &RowIndex, setup: &Setup, state: &State, row: &Row, id: u32) -> u64
-    requires limits { IsSetup setup.now }
-    requires valid { IsLooselyValid setup.now state.now }
-    requires row { IsKnownRow 0 setup.now state.now.rows row.now }
-    ensures { result ≡ square_to_by state.now row.now id }
-{
-    match index.find_row(state, id) {
-        Some(other) => square(other.at, row.at),
-        None => 0,
-    }
-}
-
-// Whether the row lets go of its target: one that is no enemy of its owner, or that it does not reach from the place that it
-// holds.
-fn lets_go(index: &RowIndex, setup: &Setup, state: &State, row: &Row) -> bool
-    requires limits { IsSetup setup.now }
-    requires valid { IsLooselyValid setup.now state.now }
-    requires row { IsKnownRow 0 setup.now state.now.rows row.now }
-    ensures { result ≡ lets_go_by setup.now row.now (row_of state.now (target_by row.now)) }
-{
-    match index.find_row(state, target_of(row)) {
-        Some(target) => {
-            !is_enemy_of(setup, row.owner, target.owner)
-                || is_holding(row) && !reaches(setup, row, &target.at)
-        }
-        None => false,
     }
 }
 

@@ -4,9 +4,11 @@
 
 ghost use Rattle.{sim_attack.specs.Fights.AreTaken, sim_attack.specs.Fights.fought_on, sim_plans.specs.SceneWords.Stands, std.specs.Result.ForOk};
 ghost use Rattle.std.specs.Prelude.{◌≡◌, ℕ, ◌+◌, ◌^◌, ◌<◌, ◌≤◌, List, [], ◌∷◌, ◌++◌, length, IfOk, OnOk, All};
-ghost use Rattle.sim_base.specs.{Hit.Hit, Hit.hit, Hit.lands as lands_by, Limits.IsSetup, Validity.IsKnownRow, Validity.IsLooselyValid};
+ghost use Rattle.sim_base.specs.{Hit.Hit, Hit.hit, Hit.lands as lands_by, Limits.IsSetup, Validity.IsLooselyValid};
+ghost use Rattle.sim_attack.specs.Battles.{Knows};
 ghost use Rattle.sim_plans.specs.{PlanLaws.IsPlanOf, Plans.cooldown_change, Plans.fight_changes_of, Plans.hit_plan, Plans.hurt_changes_by};
 
+use crate::battle::Battle;
 use crate::damage::taken;
 use sim_base::{Aim, Change, Changes, Fixed, Items, OutOfMemory, Row, Setup, State, next_word};
 use sim_plans::{RowIndex, Scene, arms_of, is_near, resist_of};
@@ -35,9 +37,14 @@ fn listed_hits(alloc: Global, setup: &Setup, state: &State) -> Result<Changes, O
     let mut changes = Items::from_items(Vec::with_capacity(alloc, room)?);
     let mut damage = vec![in alloc; 0; rows.len()]?;
     let index = RowIndex::of(alloc, rows)?;
+    let battle = Battle {
+        setup,
+        state,
+        index: &index,
+    };
     let mut word = state.word;
     for row in rows {
-        word = fight(&mut changes, &mut damage, &index, setup, state, row, word)?;
+        word = battle.fight(&mut changes, &mut damage, row, word)?;
     }
     changes.push(Change::Word { word })?;
     for (at, row) in rows.iter().enumerate() {
@@ -46,53 +53,51 @@ fn listed_hits(alloc: Global, setup: &Setup, state: &State) -> Result<Changes, O
     Ok(changes)
 }
 
-// The row fights. Answers the word afterwards.
-fn fight(
-    changes: &mut Changes,
-    damage: &mut Vec<u64>,
-    index: &RowIndex,
-    setup: &Setup,
-    state: &State,
-    row: &Row,
-    word: u64,
-) -> Result<u64, OutOfMemory>
-    requires limits { IsSetup setup.now }
-    requires valid { IsLooselyValid setup.now state.now }
-    requires row { IsKnownRow 0 setup.now state.now.rows row.now }
-    requires word { word < 2 ^ 48 }
-    requires long { length damage.old.items ≡ length state.now.rows }
-    requires small { All (λ n. n ≤ 2 ^ 60) damage.old.items }
-    ensures changes { OnOk result (changes.new ≡ changes.old ++ fight_changes_of setup.now state.now row.now) }
-    ensures word { IfOk result (λ next. (hits : List Hit) → next ≡ (fought_on setup.now state.now word hits row.now).word) }
-    ensures is_word { IfOk result (λ next. next < 2 ^ 48) }
-    ensures damage { OnOk result ((hits : List Hit) → AreTaken state.now.rows hits damage.old.items
-        → AreTaken state.now.rows (fought_on setup.now state.now word hits row.now).hits damage.new.items) }
-    ensures small { OnOk result ((most : ℕ) → All (λ n. n ≤ most) damage.old.items → All (λ n. n ≤ most + 196608000) damage.new.items) }
-{
-    let Some(aim) = row.attack else {
-        return Ok(word);
-    };
-    let Some(arms) = arms_of(setup, row) else {
-        return Ok(word);
-    };
-    if aim.cooldown > 0 {
-        push_cooldown(changes, row.id, &aim, aim.cooldown - 1)?;
-        return Ok(word);
+impl Battle<'_> {
+    // The row fights. Answers the word afterwards.
+    fn fight(
+        &self,
+        changes: &mut Changes,
+        damage: &mut Vec<u64>,
+        row: &Row,
+        word: u64,
+    ) -> Result<u64, OutOfMemory>
+        requires known { Knows self.now row.now }
+        requires word { word < 2 ^ 48 }
+        requires long { length damage.old.items ≡ length self.now.state.now.rows }
+        requires small { All (λ n. n ≤ 2 ^ 60) damage.old.items }
+        ensures changes { OnOk result (changes.new ≡ changes.old ++ fight_changes_of self.now.setup.now self.now.state.now row.now) }
+        ensures word { IfOk result (λ next. (hits : List Hit) → next ≡ (fought_on self.now.setup.now self.now.state.now word hits row.now).word) }
+        ensures is_word { IfOk result (λ next. next < 2 ^ 48) }
+        ensures damage { OnOk result ((hits : List Hit) → AreTaken self.now.state.now.rows hits damage.old.items
+            → AreTaken self.now.state.now.rows (fought_on self.now.setup.now self.now.state.now word hits row.now).hits damage.new.items) }
+        ensures small { OnOk result ((most : ℕ) → All (λ n. n ≤ most) damage.old.items → All (λ n. n ≤ most + 196608000) damage.new.items) }
+    {
+        let Some(aim) = row.attack else {
+            return Ok(word);
+        };
+        let Some(arms) = arms_of(self.setup, row) else {
+            return Ok(word);
+        };
+        if aim.cooldown > 0 {
+            push_cooldown(changes, row.id, &aim, aim.cooldown - 1)?;
+            return Ok(word);
+        }
+        let rows = self.state.rows.as_slice();
+        let Some(at) = self.index.place_of(rows, aim.target) else {
+            return Ok(word);
+        };
+        let target = &rows[at];
+        if !is_near(&target.at, &row.at, arms.range) {
+            return Ok(word);
+        }
+        let word = next_word(word);
+        push_cooldown(changes, row.id, &aim, arms.repeat)?;
+        if lands(word, arms.accuracy) {
+            damage[at] += taken(&arms.harm, &resist_of(self.setup, target));
+        }
+        Ok(word)
     }
-    let rows = state.rows.as_slice();
-    let Some(at) = index.place_of(rows, aim.target) else {
-        return Ok(word);
-    };
-    let target = &rows[at];
-    if !is_near(&target.at, &row.at, arms.range) {
-        return Ok(word);
-    }
-    let word = next_word(word);
-    push_cooldown(changes, row.id, &aim, arms.repeat)?;
-    if lands(word, arms.accuracy) {
-        damage[at] += taken(&arms.harm, &resist_of(setup, target));
-    }
-    Ok(word)
 }
 
 // Whether a hit lands with this word, where so many of a hundred do.

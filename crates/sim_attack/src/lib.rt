@@ -4,6 +4,7 @@
 //! a row sees is asked of the scene only for a row that looks for a target. It stands on `sim_plans`, which has the changes
 //! as lists, and the scene.
 //!
+//! - `battle`: what all rows of a phase are looked at with.
 //! - `aim`: whom a row takes as target, and the phase in which fighters aim.
 //! - `finds`: what rows that stand together find but once.
 //! - `damage`: what a hit takes.
@@ -12,6 +13,7 @@
 #![tactic(auto)]
 
 mod aim;
+mod battle;
 mod damage;
 mod finds;
 mod gone;

@@ -13,7 +13,7 @@ returns-in-Some-clause-target g c =
     let row = c.args.row.now in
     let finds = c.args.finds.now.kept.items in
     let place = place_for row.owner row.at in
-    shared_is_nearest setup state row c.args.arms.now.vision (get_or finds place None) c.in-Some.target (found_at setup state finds place c.requires.finds)
+    shared_is_nearest setup state row c.args.arms.now.vision (get_or finds place None) c.in-Some.target (found_at setup state finds place c.requires.can.finds)
     (sym c.in-Some.ensures)
 
 nearest_is : goal.returns-clause-target
@@ -22,11 +22,11 @@ nearest_is g c =
     let state = c.args.scene.now.state.now in
     let row = c.args.row.now in
     let arms = c.args.arms.now in
-    let seen_is : seen_from setup state (row_of state row.id) ≡ seen setup state row arms = ap (seen_from setup state) c.requires.found ∙
+    let seen_is : seen_from setup state (row_of state row.id) ≡ seen setup state row arms = ap (seen_from setup state) c.requires.can.found ∙
     ap (seen_with setup state row) c.requires.arms in
     let ids_are : c.as_slice.result.now ≡ seen_from setup state (row_of state row.id) = search rules in
     c.nearest-target.ensures ∙ ap (nearest_of state row) (ids_are ∙ seen_is) ∙
-    seen_is_nearest setup state row c.requires.stands.limits c.requires.stands.valid c.requires.row c.requires.found arms
+    seen_is_nearest setup state row c.requires.can.stands.limits c.requires.can.stands.valid c.requires.can.row_is c.requires.can.found arms
 
 pub returns-clause-target : goal.returns-clause-target
 returns-clause-target g c = nearest_is g c
@@ -40,4 +40,7 @@ returns-clause-finds g c =
     All-same P c.keep.new.self.kept.items _ c.in_ok-keep.ensures.ok
     (All-set P (filled c.args.finds.now.kept.items) (place_for row.owner row.at)
     (Some (record { owner = row.owner; at = row.at; vision = c.args.arms.now.vision; target = c.nearest-target.result })) (nearest_is g c)
-    (filled_found setup state c.args.finds.now.kept.items c.requires.finds))
+    (filled_found setup state c.args.finds.now.kept.items c.requires.can.finds))
+
+pub nearest-target-requires : goal.nearest-target-requires
+nearest-target-requires g c = record { limits = c.requires.can.stands.limits; valid = c.requires.can.stands.valid; row_is = c.requires.can.row_is }

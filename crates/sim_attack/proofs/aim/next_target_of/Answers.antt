@@ -12,7 +12,7 @@ returns-then-may_take-clause-target g c =
     let arms = c.in-Some.arms in
     let target = c.in_ok-target.target in
     let nearest : target ≡ nearest_of state row (seen setup state row arms) = c.in_ok-target.ensures.target ∙
-    sym (seen_is_nearest setup state row c.requires.stands.limits c.requires.stands.valid c.requires.row c.requires.found arms) in
+    sym (seen_is_nearest setup state row c.requires.can.stands.limits c.requires.can.stands.valid c.requires.can.row_is c.requires.can.found arms) in
     let takes : may_take state row arms target ≡ true = search rules in
     target_from setup state row arms target true nearest takes ∙ ap (next_target setup state row) c.in-Some.ensures
 
@@ -24,6 +24,6 @@ returns-else-may_take-clause-target g c =
     let arms = c.in-Some.arms in
     let target = c.in_ok-target.target in
     let nearest : target ≡ nearest_of state row (seen setup state row arms) = c.in_ok-target.ensures.target ∙
-    sym (seen_is_nearest setup state row c.requires.stands.limits c.requires.stands.valid c.requires.row c.requires.found arms) in
+    sym (seen_is_nearest setup state row c.requires.can.stands.limits c.requires.can.stands.valid c.requires.can.row_is c.requires.can.found arms) in
     let leaves : may_take state row arms target ≡ false = search rules in
     target_from setup state row arms target false nearest leaves ∙ ap (next_target setup state row) c.in-Some.ensures

@@ -1,4 +1,4 @@
-use Rattle.std.proofs.Common.{◌≡◌, ℕ, ◌+◌, ◌*◌, ◌^◌, ◌<◌, ◌≤◌, List, [], ◌∷◌, ◌++◌, length, get_or, take, flat_map, refl, ap, arith, ◌∙◌}
+use Rattle.std.proofs.Common.{◌≡◌, ℕ, ◌+◌, ◌*◌, ◌^◌, ◌<◌, ◌≤◌, List, [], ◌∷◌, ◌++◌, length, get_or, take, flat_map, refl, ap, arith, rules, ◌∙◌}
 use Rattle.std.proofs.lemmas.List.{take_all, Elements.All-weaker}
 use Rattle.sim_attack.proofs.{Fighting.behind_word, Fighting.far_all, Fighting.far_more, Fighting.hurt_at, Loops.listed_more}
 use Rattle.sim_base.specs.{Hit.hitting, declared.change.Change.Change, declared.change.Change.TheVariants.Word, declared.state.Row.Row}
@@ -69,3 +69,6 @@ loop-at-preserved c =
       taken = before.taken;
       small = before.small;
     }
+
+pub fight-requires-clause-known : goal.fight-requires-clause-known
+fight-requires-clause-known c = record { limits = c.requires.limits; valid = c.requires.valid; row_is = search rules }

@@ -4,11 +4,11 @@ use Rattle.std.proofs.Common.{◌≡◌, ℕ, ◌+◌, ◌<◌, true, List, [], 
 use Rattle.sim_base.specs.{Filters.is_near, Hit.Hit, Hit.lands, Hit.resist_of, Hit.taken, Numbers.next_word, Rows.arms_of, Rows.row_of, declared.state.Row.Row}
 use Rattle.sim_plans.specs.Found.{found}
 
-pub returns-then-lands-clause-damage : Rattle.sim_attack.proofs.hit.fight.Goals.returns-then-lands-clause-damage
+pub returns-then-lands-clause-damage : Rattle.sim_attack.proofs.battle.Battle.fight.Goals.returns-then-lands-clause-damage
 returns-then-lands-clause-damage c =
     λ hits are_taken.
-    let setup = c.args.setup.now in
-    let state = c.args.state.now in
+    let setup = c.args.self.now.setup.now in
+    let state = c.args.self.now.state.now in
     let row = c.args.row.now in
     let aim = c.in-Some.aim in
     let arms = c.in-Some-arms_of.arms in
@@ -28,7 +28,7 @@ returns-then-lands-clause-damage c =
     let inside : at < length damage = omega (arith, lt, c.requires.long) in
     let old : c.index_mut.result.now ≡ get_or damage at 0 = c.index_mut.ensures.value ∙ get_or_default damage at c.index_mut.result.now 0 inside in
     let takes : c.taken.result ≡ taken arms.harm (resist_of setup target) = search rules in
-    let added = hit_at state.rows hits damage at target c.taken.result c.index_mut.result.now c.requires.valid.ascending lt here old are_taken in
+    let added = hit_at state.rows hits damage at target c.taken.result c.index_mut.result.now c.requires.known.valid.ascending lt here old are_taken in
     let is = fought_lands setup state c.args.word hits row aim arms target attacks armed ready found_is near landed in
     subst (λ (hs : List Hit). AreTaken state.rows hs (set damage at (c.index_mut.result.now + c.taken.result)))
     (ap (λ (n : ℕ). hits ++ record { target = target.id; taken = n } ∷ []) takes ∙ sym is) added

@@ -1,9 +1,9 @@
 use Rattle.std.proofs.Common.{◌+◌, ◌<◌, length, get_or, Some, refl, arith, subst, sym}
 use Rattle.sim_attack.{proofs.Nearer.least_first, proofs.Nearer.nearer_more, specs.Nearest.StandsFor, specs.declared.aim.Candidate.Candidate}
 
-pub loop-id-preserved : Rattle.sim_attack.proofs.aim.nearest.Goals.loop-id-preserved
+pub loop-id-preserved : Rattle.sim_attack.proofs.battle.Battle.nearest.Goals.loop-id-preserved
 loop-id-preserved c =
-    let state = c.args.state.now in
+    let state = c.args.self.now.state.now in
     let row = c.args.row.now in
     let ids = c.args.ids.now in
     let n = c.loop-id.id-index in
