@@ -36,8 +36,8 @@ mod trial;
 
 pub use films::film_text;
 pub use logs::{digests_after, log_after, match_log};
-pub use market::Market;
 pub use matches::{play_text, resume_text, state_at};
+pub use paid_matches::stock_text;
 pub use realm::realm_text;
 pub use rejoin::rejoin_text;
 pub use sights::{resight_text, sight_at};

@@ -1,94 +1,79 @@
 //! The paid turns of a match, with a line for each.
 
-ghost use Rattle.sim_play.specs.Common.{AreKept, books_after, books_of, IsEconomy, IsValid, IsWhole, orders_at, paid_turn as paid_turn_by, setup_in, state_in};
+ghost use Rattle.sim_play.specs.Common.{books_after, books_of, IsEconomy, orders_at, paid_turn as paid_turn_by, setup_in, state_in};
 ghost use Rattle.sim_play.specs.{Common.systems, Common.total, Paid.paid_lines, Paid.paid_state, Paid.paid_stocks};
 ghost use Rattle.sim_play.specs.Playing.{ComesTo, GoesOnTo, HasBegun, MayBegin, MayGoOn};
-ghost use Rattle.std.specs.Prelude.{◌++◌, ◌+◌, ◌<◌, ◌^◌, ◌≡◌, ◌≤◌, IfOk, OnOk, string_bytes, suc};
+ghost use Rattle.sim_stock.specs.Trading.{PaysTo};
+ghost use Rattle.std.specs.Prelude.{◌++◌, ◌+◌, ◌<◌, ◌^◌, ◌≡◌, IfOk, OnOk, string_bytes, suc};
 
 use crate::due::commands_of;
 use crate::lines::push_line;
 use sim_base::OutOfMemory;
 use sim_board::Board;
-use sim_orders::OrderTable;
-use sim_stock::{DeedTable, Economy, Stocks, paid_turn};
+use sim_stock::{Market, Stocks};
 use sim_system::System;
 use sim_turn::due_at;
-use std::alloc::Global;
 
-/// What the paid turns of a match are played with.
-#[derive(Drop)]
-pub struct Market<'a> {
-    pub alloc: Global,
-    pub orders: &'a OrderTable,
-    pub deeds: &'a DeedTable,
-    pub economy: &'a Economy,
+/// Starts a board and plays it to the last turn of its match, appends a line for each turn, and gives the stocks in the end.
+pub fn start_lines(
+    market: &Market<'_>,
+    board: &mut Board<'_>,
+    out: &mut String,
+) -> Result<Stocks, OutOfMemory>
+    requires begins { MayBegin (setup_in board.old) (systems board.old ⟦<dyn System as System>⟧) }
+    requires economy { IsEconomy (setup_in board.old) market.now.economy.now }
+    ensures stocks { IfOk result (λ stocks. stocks ≡ paid_stocks (setup_in board.old) market.now.economy.now (setup_in board.old).turns) }
+    ensures text { OnOk result (string_bytes out.new ≡ string_bytes out.old
+        ++ paid_lines (setup_in board.old) market.now.economy.now (suc (setup_in board.old).turns)) }
+    ensures ends { ComesTo ⟦<dyn System as System>⟧ (paid_state (setup_in board.old) market.now.economy.now (setup_in board.old).turns) result board.old
+        board.new }
+{
+    board.start()?;
+    push_turns(market, board, out)
 }
 
-impl Market<'_> {
-    /// Starts a board and plays it to the last turn of its match, appends a line for each turn, and gives the stocks in the end.
-    pub fn start_lines(
-        &self,
-        board: &mut Board<'_>,
-        out: &mut String,
-    ) -> Result<Stocks, OutOfMemory>
-        requires begins { MayBegin (setup_in board.old) (systems board.old ⟦<dyn System as System>⟧) }
-        requires economy { IsEconomy (setup_in board.old) self.now.economy.now }
-        ensures stocks { IfOk result (λ stocks. stocks ≡ paid_stocks (setup_in board.old) self.now.economy.now (setup_in board.old).turns) }
-        ensures text { OnOk result (string_bytes out.new ≡ string_bytes out.old
-            ++ paid_lines (setup_in board.old) self.now.economy.now (suc (setup_in board.old).turns)) }
-        ensures ends { ComesTo ⟦<dyn System as System>⟧ (paid_state (setup_in board.old) self.now.economy.now (setup_in board.old).turns) result board.old
-            board.new }
-    {
-        board.start()?;
-        self.push_turns(board, out)
-    }
-
-    // Plays a board that has just started to the last turn of its match, and appends a line for each turn.
-    fn push_turns(&self, board: &mut Board<'_>, out: &mut String) -> Result<Stocks, OutOfMemory>
-        requires begun { HasBegun ⟦<dyn System as System>⟧ board.old }
-        requires economy { IsEconomy (setup_in board.old) self.now.economy.now }
-        ensures books { IfOk result (λ stocks. books_of (state_in board.new) stocks
-            ≡ books_after (setup_in board.old) self.now.economy.now (setup_in board.old).turns) }
-        ensures text { OnOk result (string_bytes out.new ≡ string_bytes out.old
-            ++ paid_lines (setup_in board.old) self.now.economy.now (suc (setup_in board.old).turns)) }
-        ensures ends { GoesOnTo ⟦<dyn System as System>⟧ (paid_state (setup_in board.old) self.now.economy.now (setup_in board.old).turns) result board.old
-            board.new }
-    {
-        let setup = board.setup();
-        let mut stocks = self.economy.start;
+// Plays a board that has just started to the last turn of its match, and appends a line for each turn.
+fn push_turns(
+    market: &Market<'_>,
+    board: &mut Board<'_>,
+    out: &mut String,
+) -> Result<Stocks, OutOfMemory>
+    requires begun { HasBegun ⟦<dyn System as System>⟧ board.old }
+    requires economy { IsEconomy (setup_in board.old) market.now.economy.now }
+    ensures books { IfOk result (λ stocks. books_of (state_in board.new) stocks
+        ≡ books_after (setup_in board.old) market.now.economy.now (setup_in board.old).turns) }
+    ensures text { OnOk result (string_bytes out.new ≡ string_bytes out.old
+        ++ paid_lines (setup_in board.old) market.now.economy.now (suc (setup_in board.old).turns)) }
+    ensures ends { GoesOnTo ⟦<dyn System as System>⟧ (paid_state (setup_in board.old) market.now.economy.now (setup_in board.old).turns) result board.old
+        board.new }
+{
+    let setup = board.setup();
+    let mut stocks = market.economy.start;
+    push_line("turn", setup, board.scene().state, out)?;
+    for turn in 0..setup.turns {
+        play_turn(market, board, &mut stocks, turn + 1)?;
         push_line("turn", setup, board.scene().state, out)?;
-        for turn in 0..setup.turns {
-            self.play_turn(board, &mut stocks, turn + 1)?;
-            push_line("turn", setup, board.scene().state, out)?;
-        }
-        Ok(stocks)
     }
+    Ok(stocks)
+}
 
-    // Plays the turn of this number with the match's own commands.
-    fn play_turn(
-        &self,
-        board: &mut Board<'_>,
-        stocks: &mut Stocks,
-        number: u32,
-    ) -> Result<(), OutOfMemory>
-        requires goes_on { MayGoOn ⟦<dyn System as System>⟧ board.old }
-        requires below { (state_in board.old).turn < (setup_in board.old).turns }
-        requires number { number ≡ (state_in board.old).turn + 1 }
-        requires economy { IsEconomy (setup_in board.old) self.now.economy.now }
-        requires total { total stocks.old + 8192000 < 2 ^ 40 }
-        ensures books { OnOk result (books_of (state_in board.new) stocks.new
-            ≡ paid_turn_by (setup_in board.old) self.now.economy.now (books_of (state_in board.old) stocks.old)
-            (orders_at number (setup_in board.old).commands)) }
-        ensures total { OnOk result (total stocks.new ≤ total stocks.old + 8192000) }
-        ensures valid { OnOk result (IsValid (setup_in board.old) (state_in board.new)) }
-        ensures whole { OnOk result (IsWhole board.new ⟦<dyn System as System>⟧) }
-        ensures kept { AreKept (systems board.old ⟦<dyn System as System>⟧) (systems board.new ⟦<dyn System as System>⟧) }
-        ensures setup { setup_in board.new ≡ setup_in board.old }
-    {
-        let setup = board.setup();
-        let due = due_at(setup.commands.as_slice(), number);
-        let commands = commands_of(self.alloc, due)?;
-        let (alloc, orders, deeds) = (self.alloc, self.orders, self.deeds);
-        paid_turn(alloc, board, orders, deeds, self.economy, stocks, &commands)
-    }
+// Plays the turn of this number with the match's own commands.
+fn play_turn(
+    market: &Market<'_>,
+    board: &mut Board<'_>,
+    stocks: &mut Stocks,
+    number: u32,
+) -> Result<(), OutOfMemory>
+    requires goes_on { MayGoOn ⟦<dyn System as System>⟧ board.old }
+    requires below { (state_in board.old).turn < (setup_in board.old).turns }
+    requires number { number ≡ (state_in board.old).turn + 1 }
+    requires economy { IsEconomy (setup_in board.old) market.now.economy.now }
+    requires total { total stocks.old + 8192000 < 2 ^ 40 }
+    ensures { PaysTo result (paid_turn_by (setup_in board.old) market.now.economy.now (books_of (state_in board.old) stocks.old)
+        (orders_at number (setup_in board.old).commands)) board.old board.new stocks.old stocks.new ⟦<dyn System as System>⟧ }
+{
+    let setup = board.setup();
+    let due = due_at(setup.commands.as_slice(), number);
+    let commands = commands_of(market.alloc, due)?;
+    market.paid_turn(board, stocks, &commands)
 }

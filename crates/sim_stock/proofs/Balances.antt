@@ -1,5 +1,5 @@
 -- What deeds, prices and incomes make of all that there is.
-use Rattle.sim_stock.proofs.Common.{get_or-le-sum_by, given, IsAsked, IsDatedDeed, kind_of, leb-true, paid, Rate, spent, Stocks, sum_by-cons, total, Tribute}
+use Rattle.sim_stock.proofs.Common.{get_or-le-sum_by, IsAsked, IsDatedDeed, kind_of, leb-true, paid, Rate, spent, Stocks, sum_by-cons, total, Tribute}
 use Rattle.sim_stock.proofs.Common.{◌==◌, sum, refl, affords, amount_of, and_parts, AreBelow, arith, Barter, DatedDeed, Deed, deed, earned, gained}
 use Rattle.sim_stock.proofs.Common.{◌≡◌, ℕ, zero, suc, ◌+◌, ◌-◌, ◌*◌, ◌/◌, ◌^◌, ◌<◌, ◌≤◌, Bool, true, false, List, [], ◌∷◌, get_or, set, if◌then◌else◌, nat_le}
 

@@ -1,8 +1,8 @@
 -- A paid turn is a turn with the commands that were not left out.
-use Rattle.sim_stock.proofs.Common.{Some, None, Ok, Err, fold, All, filter, Option, Result, refl, affords, after, All-cons, All-filter, All-head, All-tail, ap}
+use Rattle.sim_stock.proofs.Common.{Some, None, Ok, Err, fold, All, Option, Result, refl, affords, after, All-cons, All-filter, All-head, All-tail, ap}
 use Rattle.sim_stock.proofs.Common.{Stocks, subst, sym, Template, template_of, Tribute, turn, turn_is_counted, turn_keeps_valid, with_deeds, ◌∙◌}
 use Rattle.sim_stock.proofs.Common.{arith, Barter, Books, books_after, books_of, charged, collected, commanded, DatedDeed, dealt, Deed, deeds_at, Economy}
-use Rattle.sim_stock.proofs.Common.{is_kept, IsDated, IsDatedDeed, IsDeedBy, IsDeedOf, IsEconomy, IsOrderOf, IsSetup, IsState, IsValid, IsValidRow, kept}
+use Rattle.sim_stock.proofs.Common.{is_kept, IsDatedDeed, IsDeedBy, IsDeedOf, IsEconomy, IsOrderOf, IsSetup, IsState, IsValid, IsValidRow, kept}
 use Rattle.sim_stock.proofs.Common.{kept_in, kept_past, made_row, obeyed, orders_at, paid, paid_turn, PlayerCommand, price_of, Rate, Row, settled, Setup, State}
 use Rattle.sim_stock.proofs.Common.{◌≡◌, ℕ, zero, suc, ◌+◌, ◌<◌, ◌≤◌, Bool, true, false, List, [], ◌∷◌, ◌++◌, get_or, if◌then◌else◌, OnOk, ◌==◌, MatchOption}
 

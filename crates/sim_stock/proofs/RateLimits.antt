@@ -1,7 +1,7 @@
 -- Rates within a limit.
 use Rattle.sim_stock.proofs.Common.{find, unwrap_or, option_map, All-head, All-map, All-tail, AreBelow, arith, IsRate, IsStart, NamedRate, no_rate, opening}
 use Rattle.sim_stock.proofs.Common.{range_with_len, Rate, rate_at, rate_named, rates_of, subst, sum_by-le, sym, unwrap_or-slice_get}
-use Rattle.sim_stock.proofs.Common.{ℕ, zero, suc, ◌+◌, ◌*◌, ◌<◌, ◌≤◌, Bool, true, false, cond, List, [], ◌∷◌, map, get_or, ◌==◌, slice_get, Some, All, sum}
+use Rattle.sim_stock.proofs.Common.{ℕ, zero, suc, ◌+◌, ◌*◌, ◌<◌, ◌≤◌, Bool, true, false, cond, List, [], ◌∷◌, map, get_or, ◌==◌, Some, All, sum}
 
 -- nothing is within every limit
 none_limits : (limit : ℕ) → IsRate limit no_rate

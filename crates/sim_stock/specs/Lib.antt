@@ -6,3 +6,4 @@ pub mod Amounts
 pub mod DeedItems
 pub mod Economies
 pub mod PaidTurns
+pub mod Trading

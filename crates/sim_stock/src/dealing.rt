@@ -1,6 +1,6 @@
 //! The first part and the last part of a paid turn: deeds, which players do before they command, and the income.
 
-ghost use Rattle.{sim_base.specs.declared.state.Row.Row as AnyRow, sim_stock.specs.Stocks.total};
+ghost use Rattle.{sim_base.specs.declared.state.Row.Row as AnyRow, sim_stock.specs.Stocks.total, sim_stock.specs.Trading.AreLeft};
 ghost use Rattle.std.specs.Prelude.{◌≡◌, ◌+◌, ◌*◌, ◌^◌, ◌<◌, ◌≤◌, length, All};
 ghost use Rattle.sim_stock.specs.{Deeds.deed as deed_of, Deeds.IsDatedDeed, PaidTurns.brought, PaidTurns.collected, PaidTurns.dealt, Rates.IsRate};
 
@@ -12,8 +12,7 @@ use sim_base::Row;
 pub fn deal(table: &DeedTable, deeds: &[DatedDeed], stocks: &mut Stocks)
     requires deeds { All IsDatedDeed deeds.now }
     requires total { total stocks.old < 2 ^ 40 }
-    ensures stocks { stocks.new ≡ dealt stocks.old deeds.now }
-    ensures total { total stocks.new ≤ total stocks.old }
+    ensures { AreLeft (dealt stocks.old deeds.now) stocks.old stocks.new }
 {
     for dated in deeds {
         act(table, dated, stocks);
@@ -24,8 +23,7 @@ pub fn deal(table: &DeedTable, deeds: &[DatedDeed], stocks: &mut Stocks)
 fn act(table: &DeedTable, dated: &DatedDeed, stocks: &mut Stocks)
     requires dated { IsDatedDeed dated.now }
     requires total { total stocks.old < 2 ^ 40 }
-    ensures stocks { stocks.new ≡ deed_of stocks.old dated.now.player dated.now.deed }
-    ensures total { total stocks.new ≤ total stocks.old }
+    ensures { AreLeft (deed_of stocks.old dated.now.player dated.now.deed) stocks.old stocks.new }
 {
     *stocks = table.after(stocks, dated.player, &dated.deed);
 }

@@ -12,6 +12,7 @@
 //! - `tributes`, `barters`: the handlers of tributes and barters.
 //! - `table`: the stored handlers.
 //! - `due`, `dealing`: the deeds of a turn, and the income.
+//! - `market`: what a match with an economy is played with.
 //! - `price`, `buying`: what a command costs, and commands that are paid for or left out.
 //! - `paid_turns`: a whole paid turn.
 #![tactic(auto)]
@@ -25,6 +26,7 @@ mod deed_items;
 mod due;
 mod economy;
 mod fault;
+mod market;
 mod paid_turns;
 mod price;
 mod rate;
@@ -37,7 +39,7 @@ pub use barters::barter;
 pub use deed::{DatedDeed, DatedDeeds, Deed};
 pub use economy::Economy;
 pub use fault::EconomyFault;
-pub use paid_turns::paid_turn;
+pub use market::Market;
 pub use rate::{Rate, Rates};
 pub use reading::economy_of;
 pub use stocks::{FOOD, METAL, Stocks};

@@ -2,7 +2,7 @@
 
 ghost use Rattle.{sim_top.specs.Returning.RigsCameBack, std.specs.Prelude.Some};
 ghost use Rattle.sim_top.specs.{Commands.IsAnswerTo, Commands.shelved, Making.IsMade, Making.status_made, Rigs.AreEight, Rigs.HasPlayed, Words.to_stock};
-ghost use Rattle.sim_top.specs.{Common.IsEconomy, Common.paid_state, Common.stock_text, Common.systems_of, Outcome.printed};
+ghost use Rattle.sim_top.specs.{Common.IsEconomy, Common.paid_state, Common.stock_text as text_of_stocks, Common.systems_of, Outcome.printed};
 ghost use Rattle.sim_play.specs.Playing.{MayBegin};
 
 use super::{Answer, Equipment, shown};
@@ -10,8 +10,8 @@ use crate::inputs::{read_economy, read_match};
 use crate::rigs::{put_first, take_first};
 use crate::{Status, Stop};
 use sim_base::Setup;
-use sim_play::Market;
-use sim_stock::DeedTable;
+use sim_play::stock_text;
+use sim_stock::{DeedTable, Market};
 use sim_store::Shelf;
 use sim_system::{Rig, System};
 
@@ -52,9 +52,9 @@ fn stock_match<'w>(
 ) -> (Result<Answer<'w>, Stop<'w>>, Rig)
     requires begins { MayBegin setup.now (systems_of rig ⟦<dyn System as System>⟧) }
     requires economy { IsEconomy setup.now market.now.economy.now }
-    ensures made { IsMade (printed Status.Done (stock_text setup.now market.now.economy.now)) result.0 }
+    ensures made { IsMade (printed Status.Done (text_of_stocks setup.now market.now.economy.now)) result.0 }
     ensures played { HasPlayed ⟦<dyn System as System>⟧ setup.now (paid_state setup.now market.now.economy.now setup.now.turns) result.0 rig result.1 }
 {
-    let (text, rig) = market.stock_text(setup, rig);
+    let (text, rig) = stock_text(market, setup, rig);
     (shown(text), rig)
 }

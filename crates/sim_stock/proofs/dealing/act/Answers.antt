@@ -5,6 +5,9 @@ use Rattle.sim_stock.proofs.dealing.act.Goals as goal
 pub after-requires : goal.after-requires
 after-requires g c = asked_for c.args.stocks.now c.args.dated.now c.requires.dated c.requires.total
 
-pub returns-clause-total : goal.returns-clause-total
-returns-clause-total g c =
-    subst (λ (q : Stocks). total q ≤ total c.args.stocks.now) (sym c.after.ensures) (deed_total c.args.stocks.now c.args.dated.now.player c.args.dated.now.deed)
+pub returns : goal.returns
+returns g c = record {
+  stocks = c.after.ensures;
+  total = subst (λ (q : Stocks). total q ≤ total c.args.stocks.now) (sym c.after.ensures)
+      (deed_total c.args.stocks.now c.args.dated.now.player c.args.dated.now.deed);
+}

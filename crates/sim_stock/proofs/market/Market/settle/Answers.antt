@@ -1,7 +1,7 @@
 -- The income is that of the rows which the rest of the turn leaves.
 use Rattle.sim_stock.proofs.Common.{◌≡◌, ◌≤◌, length, All, ap, arith, Row, setup_in, State, state_in, subst, sym, ◌∙◌}
 use Rattle.sim_stock.proofs.Paying.{few_owners, settled_is}
-use Rattle.sim_stock.proofs.paid_turns.settle.Goals as goal
+use Rattle.sim_stock.proofs.market.Market.settle.Goals as goal
 
 pub collect-requires-clause-owners : goal.collect-requires-clause-owners
 collect-requires-clause-owners g c =
@@ -18,16 +18,17 @@ collect-requires-clause-total g c =
     ap (λ (s : State). s.rows) c.scene.ensures.state in
     omega (arith, ap length rows, standing.valid.few, c.requires.total)
 
-pub returns-clause-books : goal.returns-clause-books
-returns-clause-books g c =
-    settled_is (setup_in c.args.board.now) c.args.economy.now (state_in c.args.board.now) (state_in c.run_phases.new.board) c.args.stocks.now
-    c.collect.new.stocks c.as_slice-income.result.now
-    c.as_slice-rows.result.now c.in_ok-run_phases.ensures.state c.as_slice-income.ensures
-    (c.as_slice-rows.ensures ∙ ap (λ (s : State). s.rows) c.scene.ensures.state) c.collect.ensures.stocks
-
-pub returns-clause-total : goal.returns-clause-total
-returns-clause-total g c =
-    let standing = c.in_ok-run_phases.ensures.whole.standing in
+pub returns : goal.returns
+returns g c =
+    let ran = c.in_ok-run_phases.ensures in
     let rows : c.as_slice-rows.result.now ≡ (state_in c.run_phases.new.board).rows = c.as_slice-rows.ensures ∙
     ap (λ (s : State). s.rows) c.scene.ensures.state in
-    omega (arith, ap length rows, standing.valid.few, c.collect.ensures.total)
+    record {
+      books = settled_is (setup_in c.args.board.now) c.args.self.now.economy.now (state_in c.args.board.now) (state_in c.run_phases.new.board)
+          c.args.stocks.now c.collect.new.stocks c.as_slice-income.result.now c.as_slice-rows.result.now ran.state c.as_slice-income.ensures rows
+          c.collect.ensures.stocks;
+      total = omega (arith, ap length rows, ran.whole.standing.valid.few, c.collect.ensures.total);
+      whole = ran.whole;
+      kept = ran.kept;
+      setup = ran.setup;
+    }

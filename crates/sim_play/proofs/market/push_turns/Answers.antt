@@ -2,13 +2,13 @@
 use Rattle.sim_play.proofs.Common.{paid_state, rules, paid_lines, paid_turn, rig_in, Setup, setup_in, State, state_in, subst, sym, systems_by, turn_line, ◌∙◌}
 use Rattle.sim_play.proofs.Common.{◌≡◌, ℕ, suc, ◌+◌, ◌++◌, string_bytes, codes, refl, ap, arith, books_after, books_of, digest, IsEconomy, IsValid, orders_at}
 use Rattle.sim_play.proofs.PaidOnes.{books_more, books_state, books_turn, first_line, paid_lines_more}
-use Rattle.sim_play.proofs.market.Market.push_turns.Goals as goal
+use Rattle.sim_play.proofs.market.push_turns.Goals as goal
 use Rattle.sim_board.proofs.Keeping.{kept_fed, kept_on}
 
 pub loop-turn-init : goal.loop-turn-init
 loop-turn-init g c =
     let setup = setup_in c.args.board.now in
-    let economy = c.args.self.now.economy.now in
+    let economy = c.args.market.now.economy.now in
     let start = state_in c.args.board.now in
     let old = string_bytes c.args.out.now in
     let books : books_of start economy.start ≡ books_after setup economy 0 = ap (λ (s : State). books_of s economy.start) c.requires.begun.first in
@@ -36,19 +36,19 @@ play_turn-requires-clause-goes_on g c =
 pub play_turn-requires-clause-below : goal.play_turn-requires-clause-below
 play_turn-requires-clause-below g c =
     let i = c.loop-turn.invariant in
-    let at = books_turn (setup_in c.args.board.now) c.args.self.now.economy.now (state_in c.loop-turn.board) c.loop-turn.stocks c.loop-turn.turn i.books in
+    let at = books_turn (setup_in c.args.board.now) c.args.market.now.economy.now (state_in c.loop-turn.board) c.loop-turn.stocks c.loop-turn.turn i.books in
     let last = ap (λ (s : Setup). s.turns) i.same in
     let asked = ap (λ (s : Setup). s.turns) c.setup-setup.ensures in
     omega (arith, at, last, asked, c.loop-turn-test.true)
 
 pub play_turn-requires-clause-number : goal.play_turn-requires-clause-number
 play_turn-requires-clause-number g c =
-    let at = books_turn (setup_in c.args.board.now) c.args.self.now.economy.now (state_in c.loop-turn.board) c.loop-turn.stocks c.loop-turn.turn
+    let at = books_turn (setup_in c.args.board.now) c.args.market.now.economy.now (state_in c.loop-turn.board) c.loop-turn.stocks c.loop-turn.turn
     c.loop-turn.invariant.books in
     omega (arith, at)
 
 pub play_turn-requires-clause-economy : goal.play_turn-requires-clause-economy
-play_turn-requires-clause-economy g c = subst (λ (s : Setup). IsEconomy s c.args.self.now.economy.now) (sym c.loop-turn.invariant.same) c.requires.economy
+play_turn-requires-clause-economy g c = subst (λ (s : Setup). IsEconomy s c.args.market.now.economy.now) (sym c.loop-turn.invariant.same) c.requires.economy
 
 pub play_turn-requires-clause-total : goal.play_turn-requires-clause-total
 play_turn-requires-clause-total g c =
@@ -58,7 +58,7 @@ play_turn-requires-clause-total g c =
 pub loop-turn-preserved : goal.loop-turn-preserved
 loop-turn-preserved g c =
     let setup = setup_in c.args.board.now in
-    let economy = c.args.self.now.economy.now in
+    let economy = c.args.market.now.economy.now in
     let i = c.loop-turn.invariant in
     let t = c.loop-turn.turn in
     let played = c.in_ok-play_turn.ensures in
@@ -93,7 +93,7 @@ loop-turn-preserved g c =
 pub returns-clause-ends : goal.returns-clause-ends
 returns-clause-ends g c =
     let setup = setup_in c.args.board.now in
-    let economy = c.args.self.now.economy.now in
+    let economy = c.args.market.now.economy.now in
     let i = c.loop-turn.invariant in
     let asked = ap (λ (s : Setup). s.turns) c.setup-setup.ensures in
     let last : c.loop-turn.turn ≡ setup.turns = search rules in
