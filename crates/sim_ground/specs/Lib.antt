@@ -1,7 +1,10 @@
 pub mod Cells
 pub mod Closing
+pub mod Windows
+pub mod Covering
 pub mod Opening
 pub mod Overlaps
 pub mod Lent
 pub mod Layers
 pub mod Mended
+pub mod Mending

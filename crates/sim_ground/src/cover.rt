@@ -1,12 +1,12 @@
 //! How many rectangles cover each cell, and beside that the grid of the cells that none covers. A rectangle that comes or
 //! goes changes the cells that it covers and no other.
 
-ghost use Rattle.std.specs.Prelude.{◌≡◌, ◌+◌, ◌*◌, ◌<◌, ◌≤◌, true, false, length, replicate, IfOk, count_by};
-ghost use Rattle.sim_base.specs.{Filters.rect_covers, Limits.IsLand, Places.covers, Places.same_cell, Rows.size_of, Steps.IsOnGround};
-ghost use Rattle.sim_ground.specs.{Closing.in_row, Closing.in_rows, Layers.most_layers, Layers.part_covers, Layers.Steps};
-ghost use Rattle.sim_ground.specs.Layers.{AreAtMost, AreLayersOf, AreOpenWhereNone, layers_at, LayersChange, LayersRise, LayersTurn, MayChange, MayStep};
+ghost use Rattle.std.specs.Prelude.{◌≡◌, ◌+◌, ◌*◌, ◌<◌, ◌≤◌, false, length, replicate, IfOk, count_by};
+ghost use Rattle.sim_base.specs.{Filters.rect_covers, Places.covers, Places.same_cell, Rows.size_of, Steps.IsOnGround};
+ghost use Rattle.sim_ground.specs.{Closing.in_row, Layers.most_layers, Layers.part_covers, Layers.Steps, Windows.in_window, Windows.LiesOn};
+ghost use Rattle.sim_ground.specs.Layers.{AreAtMost, AreLayersOf, AreOpenWhereNone, layers_at, LayersTurn, MayChange, MayStep};
 
-use crate::span::span;
+use crate::window::{Window, window_of};
 use sim_base::{Cell, Land, OutOfMemory, Rect};
 use sim_grid::Grid;
 use sim_system::Fact;
@@ -29,6 +29,8 @@ fn stepped(layers: u16, more: bool) -> u16
 }
 
 impl Cover {
+    ghost use Rattle.sim_ground.specs.Covering.{Changes, MayBuild, MayDraw, Rises};
+
     // No cell is covered.
     fn new(alloc: Global, width: u16, depth: u16) -> Result<Cover, OutOfMemory>
         requires wide { 1 ≤ width }
@@ -46,8 +48,7 @@ impl Cover {
 
     /// The layers of a land with obstructions.
     pub fn of(alloc: Global, land: &Land, facts: &[Fact]) -> Result<Cover, OutOfMemory>
-        requires limits { IsLand land.now }
-        requires few { length facts.now ≤ 4096 }
+        requires { MayDraw land.now facts.now }
         ensures size { IfOk result (λ cover. cover.grid.size ≡ size_of land.now) }
         ensures layers { IfOk result (λ cover. AreLayersOf land.now facts.now cover.layers.items) }
     {
@@ -61,9 +62,7 @@ impl Cover {
     fn step(&mut self, cell: Cell, more: bool) -> bool
         requires ground { IsOnGround self.old.grid.size cell }
         requires may { MayStep more (layers_at self.old.grid.size self.old.layers.items cell) }
-        ensures size { self.new.grid.size ≡ self.old.grid.size }
-        ensures layers { LayersChange more (λ c. same_cell c cell) self.old.grid.size self.old.layers.items self.new.layers.items }
-        ensures same { result ≡ false → self.new.grid ≡ self.old.grid }
+        ensures { Changes more (λ c. same_cell c cell) result self.old self.new }
     {
         let place = usize::from(cell.z) * usize::from(self.grid.width()) + usize::from(cell.x);
         let before = self.layers[place];
@@ -77,18 +76,15 @@ impl Cover {
         }
     }
 
-    // The same over the cells of a row from the first to before the end.
-    fn step_row(&mut self, z: u16, west: u16, east: u16, more: bool) -> bool
+    // The same over the cells of a window in one of its rows.
+    fn step_row(&mut self, window: Window, z: u16, more: bool) -> bool
         requires row { z < self.old.grid.size.depth }
-        requires order { west ≤ east }
-        requires east { east ≤ self.old.grid.size.width }
-        requires may { MayChange more (in_row z west east) self.old.grid.size self.old.layers.items }
-        ensures size { self.new.grid.size ≡ self.old.grid.size }
-        ensures layers { LayersChange more (in_row z west east) self.old.grid.size self.old.layers.items self.new.layers.items }
-        ensures same { result ≡ false → self.new.grid ≡ self.old.grid }
+        requires on { LiesOn self.old.grid.size window }
+        requires may { MayChange more (in_row z window.west window.east) self.old.grid.size self.old.layers.items }
+        ensures { Changes more (in_row z window.west window.east) result self.old self.new }
     {
         let mut turned = false;
-        for x in west..east {
+        for x in window.west..window.east {
             if self.step(Cell { x, z }, more) {
                 turned = true;
             }
@@ -96,20 +92,15 @@ impl Cover {
         turned
     }
 
-    // The same over such a part of each row from the first to before the end.
-    fn step_rows(&mut self, south: u16, north: u16, west: u16, east: u16, more: bool) -> bool
-        requires rows { south ≤ north }
-        requires north { north ≤ self.old.grid.size.depth }
-        requires order { west ≤ east }
-        requires east { east ≤ self.old.grid.size.width }
-        requires may { MayChange more (in_rows south north west east) self.old.grid.size self.old.layers.items }
-        ensures size { self.new.grid.size ≡ self.old.grid.size }
-        ensures layers { LayersChange more (in_rows south north west east) self.old.grid.size self.old.layers.items self.new.layers.items }
-        ensures same { result ≡ false → self.new.grid ≡ self.old.grid }
+    // The same over all cells of a window.
+    fn step_window(&mut self, window: Window, more: bool) -> bool
+        requires on { LiesOn self.old.grid.size window }
+        requires may { MayChange more (in_window window) self.old.grid.size self.old.layers.items }
+        ensures { Changes more (in_window window) result self.old self.new }
     {
         let mut turned = false;
-        for z in south..north {
-            if self.step_row(z, west, east, more) {
+        for z in window.south..window.north {
+            if self.step_row(window, z, more) {
                 turned = true;
             }
         }
@@ -119,21 +110,17 @@ impl Cover {
     // The same over the cells of a rectangle that lie on the ground.
     fn step_rect(&mut self, rect: &Rect, more: bool) -> bool
         requires { MayChange more (covers rect.now) self.old.grid.size self.old.layers.items }
-        ensures size { self.new.grid.size ≡ self.old.grid.size }
-        ensures layers { LayersChange more (covers rect.now) self.old.grid.size self.old.layers.items self.new.layers.items }
-        ensures same { result ≡ false → self.new.grid ≡ self.old.grid }
+        ensures { Changes more (covers rect.now) result self.old self.new }
     {
-        let (south, north) = span(rect.z0, rect.z1, self.grid.depth());
-        let (west, east) = span(rect.x0, rect.x1, self.grid.width());
-        self.step_rows(south, north, west, east, more)
+        let cover = &*self;
+        let window = window_of(rect, &cover.grid);
+        self.step_window(window, more)
     }
 
     // The same over those of an obstruction.
     fn step_built(&mut self, rect: &Option<Rect>, more: bool) -> bool
         requires { MayChange more (rect_covers rect.now) self.old.grid.size self.old.layers.items }
-        ensures size { self.new.grid.size ≡ self.old.grid.size }
-        ensures layers { LayersChange more (rect_covers rect.now) self.old.grid.size self.old.layers.items self.new.layers.items }
-        ensures same { result ≡ false → self.new.grid ≡ self.old.grid }
+        ensures { Changes more (rect_covers rect.now) result self.old self.new }
     {
         match rect {
             Some(rect) => self.step_rect(rect, more),
@@ -144,9 +131,7 @@ impl Cover {
     // The same over those of what is kept of an entity.
     fn step_part(&mut self, part: &Option<Fact>, more: bool) -> bool
         requires { MayChange more (part_covers part.now) self.old.grid.size self.old.layers.items }
-        ensures size { self.new.grid.size ≡ self.old.grid.size }
-        ensures layers { LayersChange more (part_covers part.now) self.old.grid.size self.old.layers.items self.new.layers.items }
-        ensures same { result ≡ false → self.new.grid ≡ self.old.grid }
+        ensures { Changes more (part_covers part.now) result self.old self.new }
     {
         match part {
             Some(fact) => self.step_built(&fact.rect, more),
@@ -169,10 +154,8 @@ impl Cover {
 
     // One layer more over each of the closed rectangles of a land.
     fn close_all(&mut self, closed: &[Rect])
-        requires most { AreAtMost most_layers self.old.grid.size self.old.layers.items }
-        requires few { length closed.now ≤ 4096 }
-        ensures size { self.new.grid.size ≡ self.old.grid.size }
-        ensures layers { LayersRise (λ c. count_by (λ r. covers r c) closed.now) self.old.grid.size self.old.layers.items self.new.layers.items }
+        requires { MayBuild (length closed.now) self.old }
+        ensures { Rises (λ c. count_by (λ r. covers r c) closed.now) self.old self.new }
     {
         for rect in closed {
             self.step_rect(rect, true);
@@ -181,10 +164,8 @@ impl Cover {
 
     // One layer more over each obstruction.
     fn build_all(&mut self, facts: &[Fact])
-        requires most { AreAtMost most_layers self.old.grid.size self.old.layers.items }
-        requires few { length facts.now ≤ 4096 }
-        ensures size { self.new.grid.size ≡ self.old.grid.size }
-        ensures layers { LayersRise (λ c. count_by (λ fact. rect_covers fact.rect c) facts.now) self.old.grid.size self.old.layers.items self.new.layers.items }
+        requires { MayBuild (length facts.now) self.old }
+        ensures { Rises (λ c. count_by (λ fact. rect_covers fact.rect c) facts.now) self.old self.new }
     {
         for fact in facts {
             self.step_built(&fact.rect, true);

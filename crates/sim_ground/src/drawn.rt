@@ -2,8 +2,8 @@
 //! asked for, and serves as that where land and obstructions are the same: as where a match is played on in another call, or where a
 //! client loads a state. It says itself of which land and obstructions it is.
 
-ghost use Rattle.std.specs.Prelude.{◌≡◌, ◌≤◌, true, length, IfOk};
-ghost use Rattle.{sim_base.specs.Limits.IsLand, sim_ground.specs.Opening.IsOpened};
+ghost use Rattle.std.specs.Prelude.{◌≡◌, true, IfOk};
+ghost use Rattle.sim_ground.specs.{Covering.MayDraw, Opening.IsOpened};
 
 use crate::opened::Opened;
 use crate::rooms::Rooms;
@@ -49,8 +49,7 @@ pub fn draw(
     land: &Land,
     facts: &[Fact],
 ) -> Result<Opened, OutOfMemory>
-    requires limits { IsLand land.now }
-    requires few { length facts.now ≤ 4096 }
+    requires { MayDraw land.now facts.now }
     ensures { IfOk result (IsOpened land.now facts.now) }
 {
     if let Some(drawn) = rooms.take_drawn() {

@@ -6,7 +6,7 @@
 //! grid and on the search for ways.
 //!
 //! - `system`: the system.
-//! - `span`, `cover`: the cells of a rectangle; how many rectangles cover each cell, and which cells are open.
+//! - `span`, `window`, `cover`: the rows and columns of a rectangle on a ground; how many rectangles cover each cell, and which cells are open.
 //! - `opened`: the layers and the labels that are kept.
 //! - `drawn`, `same`: those of a ground that nobody uses now; whether two grounds are the same.
 //! - `mended`: the labels where the cells of a rectangle were closed or opened.
@@ -26,6 +26,7 @@ mod span;
 mod spot;
 mod system;
 mod way;
+mod window;
 
 pub use rooms::{Contents, Rooms};
 pub use system::Ground;

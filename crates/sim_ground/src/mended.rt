@@ -1,12 +1,12 @@
 //! The labels of the open cells where a rectangle came or went: those of its cells alone are changed, if that is enough.
 
 ghost use Rattle.sim_base.specs.{Filters.rect_covers, Places.covers, Places.same_cell, Steps.IsOnGround};
-ghost use Rattle.{sim_grid.specs.Grids.field_of_grid, sim_grid.specs.Grids.is_open_at, sim_ground.specs.Closing.in_row};
-ghost use Rattle.sim_ground.specs.{Closing.in_rows, Layers.part_covers, Mended.AddsTurned, Mended.AreTurned, Mended.Closes, Mended.is_turned as was_turned};
-ghost use Rattle.sim_search.specs.{Floods.label_in, Mending.labelled, Regions.AreLabels};
-ghost use Rattle.std.specs.Prelude.{[], ◌<◌, ◌≡◌, ◌≤◌, false, IfOk, is_some, OnOk, true};
+ghost use Rattle.sim_ground.specs.{Closing.in_row, Layers.part_covers, Mended.AddsTurned, Mended.is_turned as was_turned, Windows.LiesOn};
+ghost use Rattle.sim_ground.specs.Mending.{AreMended, MayClose, MayMend, MayOpen};
+ghost use Rattle.sim_search.specs.Floods.{label_in};
+ghost use Rattle.std.specs.Prelude.{[], ◌<◌, ◌≡◌, IfOk, OnOk};
 
-use crate::span::span;
+use crate::window::{Window, window_of};
 use sim_base::{Cell, OutOfMemory, Rect};
 use sim_grid::Grid;
 use sim_path::Labels;
@@ -41,44 +41,20 @@ fn push_turned(
     Ok(())
 }
 
-// Adds those of a row from the first to before the end.
+// Adds those of a window in one of its rows.
 fn push_row(
     cells: &mut Vec<Cell>,
     labels: &Labels,
     grid: &Grid,
+    window: Window,
     z: u16,
-    west: u16,
-    east: u16,
 ) -> Result<(), OutOfMemory>
     requires row { z < grid.now.size.depth }
-    requires order { west ≤ east }
-    requires east { east ≤ grid.now.size.width }
-    ensures { OnOk result (AddsTurned grid.now (label_in labels.now) (in_row z west east) cells.old.items cells.new.items) }
+    requires on { LiesOn grid.now.size window }
+    ensures { OnOk result (AddsTurned grid.now (label_in labels.now) (in_row z window.west window.east) cells.old.items cells.new.items) }
 {
-    for x in west..east {
+    for x in window.west..window.east {
         push_turned(cells, labels, grid, Cell { x, z })?;
-    }
-    Ok(())
-}
-
-// Adds those of such a part of each row from the first to before the end.
-fn push_rows(
-    cells: &mut Vec<Cell>,
-    labels: &Labels,
-    grid: &Grid,
-    south: u16,
-    north: u16,
-    west: u16,
-    east: u16,
-) -> Result<(), OutOfMemory>
-    requires rows { south ≤ north }
-    requires north { north ≤ grid.now.size.depth }
-    requires order { west ≤ east }
-    requires east { east ≤ grid.now.size.width }
-    ensures { OnOk result (AddsTurned grid.now (label_in labels.now) (in_rows south north west east) cells.old.items cells.new.items) }
-{
-    for z in south..north {
-        push_row(cells, labels, grid, z, west, east)?;
     }
     Ok(())
 }
@@ -92,37 +68,12 @@ fn turned_in(
 ) -> Result<Vec<Cell>, OutOfMemory>
     ensures { IfOk result (λ cells. AddsTurned grid.now (label_in labels.now) (covers rect.now) [] cells.items) }
 {
-    let (south, north) = span(rect.z0, rect.z1, grid.depth());
-    let (west, east) = span(rect.x0, rect.x1, grid.width());
+    let window = window_of(rect, grid);
     let mut cells = Vec::with_capacity(alloc, 16)?;
-    push_rows(&mut cells, labels, grid, south, north, west, east)?;
+    for z in window.south..window.north {
+        push_row(&mut cells, labels, grid, window, z)?;
+    }
     Ok(cells)
-}
-
-// Mends the labels after a rectangle came.
-fn closed(alloc: Global, labels: &mut Labels, grid: &Grid, rect: &Rect) -> bool
-    requires labels { AreLabels (labelled grid.now.size (label_in labels.old)) (label_in labels.old) }
-    requires closes { Closes grid.now.size (λ c. is_some (label_in labels.old c)) (is_open_at grid.now) (covers rect.now) }
-    ensures mended { result ≡ true → AreLabels (field_of_grid grid.now) (label_in labels.new) }
-    ensures same { result ≡ false → labels.new ≡ labels.old }
-{
-    match turned_in(alloc, labels, grid, rect) {
-        Ok(cells) => mend_closed(alloc, labels, grid, cells.as_slice()),
-        Err(_) => false,
-    }
-}
-
-// Mends the labels after a rectangle went.
-fn opened(alloc: Global, labels: &mut Labels, grid: &Grid, rect: &Rect) -> bool
-    requires labels { AreLabels (labelled grid.now.size (label_in labels.old)) (label_in labels.old) }
-    requires opens { Closes grid.now.size (is_open_at grid.now) (λ c. is_some (label_in labels.old c)) (covers rect.now) }
-    ensures mended { result ≡ true → AreLabels (field_of_grid grid.now) (label_in labels.new) }
-    ensures same { result ≡ false → labels.new ≡ labels.old }
-{
-    match turned_in(alloc, labels, grid, rect) {
-        Ok(cells) => mend_opened(alloc, labels, grid, cells.as_slice()),
-        Err(_) => false,
-    }
 }
 
 // The rectangle of what is kept of an entity, if it is an obstruction.
@@ -135,29 +86,25 @@ fn rect_of(part: &Option<Fact>) -> Option<Rect>
     }
 }
 
-// Mends the labels where nothing went.
-fn came(alloc: Global, labels: &mut Labels, grid: &Grid, after: &Option<Fact>) -> bool
-    requires labels { AreLabels (labelled grid.now.size (label_in labels.old)) (label_in labels.old) }
-    requires closes { Closes grid.now.size (λ c. is_some (label_in labels.old c)) (is_open_at grid.now) (part_covers after.now) }
-    ensures mended { result ≡ true → AreLabels (field_of_grid grid.now) (label_in labels.new) }
-    ensures same { result ≡ false → labels.new ≡ labels.old }
+// Mends the labels after a rectangle came.
+fn closed(alloc: Global, labels: &mut Labels, grid: &Grid, rect: &Rect) -> bool
+    requires { MayClose grid.now (covers rect.now) labels.old }
+    ensures { AreMended grid.now result labels.old labels.new }
 {
-    match rect_of(after) {
-        Some(rect) => closed(alloc, labels, grid, &rect),
-        None => false,
+    match turned_in(alloc, labels, grid, rect) {
+        Ok(cells) => mend_closed(alloc, labels, grid, cells.as_slice()),
+        Err(_) => false,
     }
 }
 
-// Mends the labels where a rectangle went and nothing came.
-fn went(alloc: Global, labels: &mut Labels, grid: &Grid, rect: &Rect, after: &Option<Fact>) -> bool
-    requires labels { AreLabels (labelled grid.now.size (label_in labels.old)) (label_in labels.old) }
-    requires turned { AreTurned grid.now.size (λ c. is_some (label_in labels.old c)) (is_open_at grid.now) (covers rect.now) (part_covers after.now) }
-    ensures mended { result ≡ true → AreLabels (field_of_grid grid.now) (label_in labels.new) }
-    ensures same { result ≡ false → labels.new ≡ labels.old }
+// Mends the labels after a rectangle went.
+fn opened(alloc: Global, labels: &mut Labels, grid: &Grid, rect: &Rect) -> bool
+    requires { MayOpen grid.now (covers rect.now) labels.old }
+    ensures { AreMended grid.now result labels.old labels.new }
 {
-    match rect_of(after) {
-        Some(_) => false,
-        None => opened(alloc, labels, grid, rect),
+    match turned_in(alloc, labels, grid, rect) {
+        Ok(cells) => mend_opened(alloc, labels, grid, cells.as_slice()),
+        Err(_) => false,
     }
 }
 
@@ -170,13 +117,12 @@ pub fn are_mended(
     before: &Option<Fact>,
     after: &Option<Fact>,
 ) -> bool
-    requires labels { AreLabels (labelled grid.now.size (label_in labels.old)) (label_in labels.old) }
-    requires turned { AreTurned grid.now.size (λ c. is_some (label_in labels.old c)) (is_open_at grid.now) (part_covers before.now) (part_covers after.now) }
-    ensures mended { result ≡ true → AreLabels (field_of_grid grid.now) (label_in labels.new) }
-    ensures same { result ≡ false → labels.new ≡ labels.old }
+    requires { MayMend grid.now (part_covers before.now) (part_covers after.now) labels.old }
+    ensures { AreMended grid.now result labels.old labels.new }
 {
-    match rect_of(before) {
-        Some(rect) => went(alloc, labels, grid, &rect, after),
-        None => came(alloc, labels, grid, after),
+    match (rect_of(before), rect_of(after)) {
+        (None, Some(rect)) => closed(alloc, labels, grid, &rect),
+        (Some(rect), None) => opened(alloc, labels, grid, &rect),
+        _ => false,
     }
 }

@@ -2,8 +2,8 @@
 //! closed or opened a cell, the labels of these cells alone are changed if no other changes by that, and else all are made anew.
 //! They serve every ask until the next note does.
 
-ghost use Rattle.{sim_base.specs.Limits.IsLand, sim_base.specs.Rows.size_of, sim_search.specs.Floods.label_in, sim_search.specs.Regions.AreLabels};
-ghost use Rattle.std.specs.Prelude.{◌≡◌, ◌≤◌, false, length, IfOk, OnOk, OnErr};
+ghost use Rattle.{sim_base.specs.Rows.size_of, sim_ground.specs.Covering.MayDraw, sim_search.specs.Floods.label_in, sim_search.specs.Regions.AreLabels};
+ghost use Rattle.std.specs.Prelude.{◌≡◌, false, IfOk, OnOk, OnErr};
 ghost use Rattle.sim_grid.specs.Grids.{field_of_grid};
 ghost use Rattle.sim_ground.specs.Layers.{AreAtMost, AreLayersOf, LayersTurn, MayChange, most_layers, no_part, part_covers};
 
@@ -25,8 +25,7 @@ pub struct Opened {
 impl Opened {
     /// Those of a land with these obstructions.
     pub fn of(alloc: Global, land: &Land, facts: &[Fact]) -> Result<Opened, OutOfMemory>
-        requires limits { IsLand land.now }
-        requires few { length facts.now ≤ 4096 }
+        requires { MayDraw land.now facts.now }
         ensures size { IfOk result (λ opened. opened.cover.grid.size ≡ size_of land.now) }
         ensures layers { IfOk result (λ opened. AreLayersOf land.now facts.now opened.cover.layers.items) }
     {

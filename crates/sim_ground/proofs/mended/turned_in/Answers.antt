@@ -1,20 +1,33 @@
--- The cells between are those of the rectangle.
-use Rattle.sim_ground.{proofs.Adding.adds_same, proofs.Stretches.rect_is, specs.Mended.AddsTurned}
-use Rattle.sim_ground.proofs.Common.{[], List, Cell, arith, covers, in_rows, label_in, rules, SFits, subst, to_z-of_z, w32}
+-- The cells of one row more are added, if they were turned, and in the end those of the window, which are those of the rectangle.
+use Rattle.sim_ground.proofs.{Adding.adds_more, Adding.adds_nothing, Adding.adds_same, Stretches.rows_more, Stretches.rows_none}
+use Rattle.sim_ground.proofs.Common.{◌≡◌, ◌+◌, [], List, Cell, arith, covers, in_row, in_rows, label_in, subst, sym, ℕ}
+use Rattle.sim_ground.specs.{Mended.AddsTurned, Windows.in_window}
+use Rattle.sim_ground.proofs.mended.turned_in.Goals as goal
 
-pub returns : Rattle.sim_ground.proofs.mended.turned_in.Goals.returns
+pub loop-z-init : goal.loop-z-init
+loop-z-init c =
+    let w = c.window_of-window.result in
+    let none = in_rows w.south w.south w.west w.east in
+    record {
+      from = omega arith;
+      adds = subst (λ (xs : List Cell). AddsTurned c.args.grid.now (label_in c.args.labels.now) none [] xs) (sym c.in_ok-cells.ensures.items)
+          (adds_nothing c.args.grid.now (label_in c.args.labels.now) none [] (rows_none w.south w.west w.east));
+    }
+
+pub loop-z-preserved : goal.loop-z-preserved
+loop-z-preserved c =
+    let w = c.window_of-window.result in
+    record {
+      from = omega (arith, c.loop-z.invariant.from);
+      adds = adds_more c.args.grid.now (label_in c.args.labels.now) (in_rows w.south c.loop-z.z w.west w.east) (in_row c.loop-z.z w.west w.east)
+          (in_rows w.south (c.loop-z.z + 1) w.west w.east) [] c.loop-z.cells.items c.push_row.new.cells.items
+          (λ e. rows_more w.south c.loop-z.z w.west w.east e c.loop-z.invariant.from) c.loop-z.invariant.adds c.in_ok-push_row.ensures;
+    }
+
+pub returns : goal.returns
 returns c =
-    let south : SFits w32 c.args.rect.now.z0 = search rules in
-    let north : SFits w32 c.args.rect.now.z1 = search rules in
-    let west : SFits w32 c.args.rect.now.x0 = search rules in
-    let east : SFits w32 c.args.rect.now.x1 = search rules in
-    let rows = simp to_z-of_z at c.span-south.ensures.span in
-    let cells = simp to_z-of_z at c.span-west.ensures.span in
-    let size = c.args.grid.now.size in
-    adds_same c.args.grid.now (label_in c.args.labels.now)
-    (in_rows c.span-south.result.0 c.span-south.result.1 c.span-west.result.0 c.span-west.result.1) (covers c.args.rect.now) [] c.push_rows.new.cells.items
-    (rect_is size c.args.rect.now c.span-south.result.0 c.span-south.result.1 c.span-west.result.0 c.span-west.result.1
-    (λ n lt. rows n (omega (arith, lt, c.depth.ensures.depth))) (λ n lt. cells n (omega (arith, lt, c.width.ensures.width))))
-    (subst (λ (xs : List Cell). AddsTurned c.args.grid.now (label_in c.args.labels.now)
-    (in_rows c.span-south.result.0 c.span-south.result.1 c.span-west.result.0 c.span-west.result.1) xs c.push_rows.new.cells.items) c.in_ok-cells.ensures.items
-    c.in_ok-push_rows.ensures)
+    let w = c.window_of-window.result in
+    let end : c.loop-z.z ≡ w.north = omega (arith, c.loop-z.auto.z-end, c.loop-z-test.false, c.window_of-window.ensures.on.rows) in
+    adds_same c.args.grid.now (label_in c.args.labels.now) (in_window w) (covers c.args.rect.now) [] c.loop-z.cells.items c.window_of-window.ensures.same
+    (subst (λ (n : ℕ). AddsTurned c.args.grid.now (label_in c.args.labels.now) (in_rows w.south n w.west w.east) [] c.loop-z.cells.items) end
+    c.loop-z.invariant.adds)

@@ -1,9 +1,4 @@
-use Rattle.sim_ground.proofs.Common.{◌≡◌, take, count_by, Fact, LayersRise, rect_covers}
+use Rattle.sim_ground.{proofs.Common.count_by, proofs.Common.Fact, proofs.Common.rect_covers, proofs.Common.take, specs.Covering.Rises}
 
 abbrev pub invariant-loop-fact : Rattle.sim_ground.proofs.cover.Cover.build_all.Given.invariant-loop-fact
-invariant-loop-fact l =
-    record {
-      size : l.self.grid.size ≡ l.initial.self.grid.size;
-      layers : LayersRise (λ c. count_by (λ (f : Fact). rect_covers f.rect c) (take l.fact-index l.facts)) l.initial.self.grid.size l.initial.self.layers.items
-          l.self.layers.items;
-    }
+invariant-loop-fact l = Rises (λ c. count_by (λ (f : Fact). rect_covers f.rect c) (take l.fact-index l.facts)) l.initial.self l.self

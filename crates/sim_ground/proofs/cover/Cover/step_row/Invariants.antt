@@ -1,10 +1,8 @@
-use Rattle.sim_ground.proofs.Common.{◌≡◌, ◌≤◌, false, in_row, LayersChange}
+use Rattle.sim_ground.{proofs.Common.in_row, proofs.Common.◌≤◌, specs.Covering.Changes}
 
 abbrev pub invariant-loop-x : Rattle.sim_ground.proofs.cover.Cover.step_row.Given.invariant-loop-x
 invariant-loop-x l =
     record {
-      from : l.west ≤ l.x;
-      size : l.self.grid.size ≡ l.initial.self.grid.size;
-      layers : LayersChange l.more (in_row l.z l.west l.x) l.initial.self.grid.size l.initial.self.layers.items l.self.layers.items;
-      same : l.turned ≡ false → l.self.grid ≡ l.initial.self.grid;
+      from : l.fn.window.west ≤ l.x;
+      changes : Changes l.more (in_row l.z l.fn.window.west l.x) l.turned l.initial.self l.self;
     }

@@ -3,15 +3,13 @@ use Rattle.sim_ground.proofs.{Common.AreLabels, Common.field_of_grid, Common.lab
 use Rattle.{sim_ground.proofs.Mendable.own_labels, sim_ground.proofs.Undoing.labels_undone, sim_search.specs.declared.labels.Labels.Labels}
 use Rattle.sim_ground.proofs.opened.Opened.turn.Goals as goal
 
-pub are_mended-requires-clause-labels : goal.are_mended-requires-clause-labels
-are_mended-requires-clause-labels c = own_labels c.args.self.now.cover.grid c.turn.new.self.grid (label_in c.args.self.now.labels) c.turn.ensures.size
-    c.args.self.now.labelled
-
-pub are_mended-requires-clause-turned : goal.are_mended-requires-clause-turned
-are_mended-requires-clause-turned c =
-    are_turned c.args.self.now.cover.grid c.turn.new.self.grid c.args.self.now.cover.layers.items c.turn.new.self.layers.items
-    (part_covers c.args.before.now) (part_covers c.args.after.now) (label_in c.args.self.now.labels) c.args.self.now.cover.agree c.turn.new.self.agree
-    c.turn.ensures.size c.turn.ensures.layers c.args.self.now.labelled
+pub are_mended-requires : goal.are_mended-requires
+are_mended-requires c = record {
+  labels = own_labels c.args.self.now.cover.grid c.turn.new.self.grid (label_in c.args.self.now.labels) c.turn.ensures.size c.args.self.now.labelled;
+  turned = are_turned c.args.self.now.cover.grid c.turn.new.self.grid c.args.self.now.cover.layers.items c.turn.new.self.layers.items
+      (part_covers c.args.before.now) (part_covers c.args.after.now) (label_in c.args.self.now.labels) c.args.self.now.cover.agree c.turn.new.self.agree
+      c.turn.ensures.size c.turn.ensures.layers c.args.self.now.labelled;
+}
 
 pub invariant_of-self-in-Err : goal.invariant_of-self-in-Err
 invariant_of-self-in-Err c = record {
