@@ -97,13 +97,7 @@ pub fn turn_all(
 
 /// Keeps what an entity sees, where it is kept, and nothing else of it. Where it is new, the room was made before. What it saw
 /// before is left in its place.
-pub fn put(
-    sights: &mut Vec<Sight>,
-    held: &Held<'_>,
-    id: u32,
-    part: &Option<Fact>,
-    own: &mut Sight,
-)
+pub fn put(sights: &mut Vec<Sight>, held: &Held<'_>, id: u32, part: &Option<Fact>, own: &mut Sight)
     requires named { IfSome part.now (λ fact. fact.id ≡ id) }
     requires own { IfSome part.now (λ fact. own.old.ids.items ≡ sight_among held.now.land.now (with_only id part.now held.now.facts.now) fact) }
     requires sights { map ids_of sights.old.items ≡ map (sight_among held.now.land.now (with_only id part.now held.now.facts.now)) held.now.facts.now }

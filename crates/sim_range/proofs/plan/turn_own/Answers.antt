@@ -7,7 +7,8 @@ use Rattle.sim_range.proofs.plan.turn_own.Goals as goal
 pub turn-requires-clause-ascending : goal.turn-requires-clause-ascending
 turn-requires-clause-ascending c =
     subst IsStrictlyIncreasing (sym c.in_ok-make_room.ensures.same)
-    (mixed_up (sees c.args.held.now.land.now (fact_with c.args.held.now.facts.now c.args.watcher.now.id)) (sees c.args.held.now.land.now (Some c.args.watcher.now)) c.args.held.now.facts.now
+    (mixed_up (sees c.args.held.now.land.now (fact_with c.args.held.now.facts.now c.args.watcher.now.id)) (sees c.args.held.now.land.now (Some
+    c.args.watcher.now)) c.args.held.now.facts.now
     c.args.held.now.holds.held.ascending c.args.seen.now (take c.loop-id.id-index c.args.seen.now) c.loop-id.own.ids.items c.loop-id.invariant)
 
 pub loop-id-preserved : goal.loop-id-preserved
@@ -31,6 +32,7 @@ loop-id-preserved c =
 pub returns : goal.returns
 returns c =
     c.loop-id.invariant
-    ∙ mixed_all (sees c.args.held.now.land.now (fact_with c.args.held.now.facts.now c.args.watcher.now.id)) (sees c.args.held.now.land.now (Some c.args.watcher.now)) c.args.held.now.facts.now
+    ∙ mixed_all (sees c.args.held.now.land.now (fact_with c.args.held.now.facts.now c.args.watcher.now.id)) (sees c.args.held.now.land.now (Some
+    c.args.watcher.now)) c.args.held.now.facts.now
     c.args.held.now.holds.held.ascending c.args.seen.now _ (take_all c.loop-id.id-index c.args.seen.now (grind arith)) c.requires.seen
     ∙ sym (seen_is c.args.held.now.land.now c.args.watcher.now c.args.watcher.now.vision c.args.held.now.facts.now)

@@ -16,7 +16,8 @@ loop-watcher-preserved c =
             along = ap (λ (ss : List Sight). length ss) is ∙ w.in_ok-make_room_at.ensures.along ∙ kept.along;
             same = λ k d. ap (λ (ss : List Sight). ids_at ss k d) is ∙ w.in_ok-make_room_at.ensures.same k d ∙ kept.same k d;
             room = subst (HaveRooms facts (take (j + 1) watchers)) (sym is)
-                (more_rooms facts watchers j (grind arith) c.loop-watcher.sights.items kept.room w.in-Ok.at w.make_room_at.new.sights.items c.args.held.now.holds.held.ascending
+                (more_rooms facts watchers j (grind arith) c.loop-watcher.sights.items kept.room w.in-Ok.at w.make_room_at.new.sights.items
+                c.args.held.now.holds.held.ascending
                 w.in-Ok.ensures w.in_ok-make_room_at.ensures.there w.in_ok-make_room_at.ensures.others);
           })
       | in_default w ↦

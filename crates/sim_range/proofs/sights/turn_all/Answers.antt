@@ -7,20 +7,23 @@ use Rattle.sim_range.proofs.sights.turn_all.Goals as goal
 pub loop-watcher-init : goal.loop-watcher-init
 loop-watcher-init c = record {
   along = refl;
-  seen = λ i f d lt. read_map ids_of (sight c.args.held.now.land.now c.args.held.now.facts.now) c.args.sights.now.items c.args.held.now.facts.now i d f c.requires.sights lt;
+  seen = λ i f d lt. read_map ids_of (sight c.args.held.now.land.now c.args.held.now.facts.now) c.args.sights.now.items c.args.held.now.facts.now i d f
+      c.requires.sights lt;
   room = λ i f d lt among none. c.requires.room i f d lt among;
   more = λ room. room;
 }
 
 pub turn_at-requires-clause-ascending : goal.turn_at-requires-clause-ascending
 turn_at-requires-clause-ascending c =
-    ready_up c.args.held.now.land.now c.args.id c.args.after.now c.args.held.now.facts.now c.args.held.now.holds.held.ascending c.requires.named c.args.watchers.now
+    ready_up c.args.held.now.land.now c.args.id c.args.after.now c.args.held.now.facts.now c.args.held.now.holds.held.ascending c.requires.named
+    c.args.watchers.now
     c.loop-watcher.watcher-index (grind arith) c.loop-watcher.sights.items c.loop-watcher.invariant.seen c.loop-watcher.invariant.room
     c.in-Ok.at c.in-Ok.ensures c.index-facts-at.result c.index-facts-at.is
 
 pub turn_at-requires-clause-room : goal.turn_at-requires-clause-room
 turn_at-requires-clause-room c =
-    ready_room c.args.held.now.land.now c.args.id c.args.after.now c.args.held.now.facts.now c.args.held.now.holds.held.ascending c.requires.named c.args.watchers.now
+    ready_room c.args.held.now.land.now c.args.id c.args.after.now c.args.held.now.facts.now c.args.held.now.holds.held.ascending c.requires.named
+    c.args.watchers.now
     c.loop-watcher.watcher-index (grind arith) c.loop-watcher.sights.items c.loop-watcher.invariant.seen c.loop-watcher.invariant.room
     c.in-Ok.at c.in-Ok.ensures c.index-facts-at.result c.index-facts-at.is c.is_seen.result c.is_seen.ensures
 
@@ -67,4 +70,5 @@ returns-clause-changed c =
     all_turned c.args.held.now.land.now c.args.id c.args.after.now c.args.held.now.facts.now c.args.held.now.holds.held.ascending c.requires.named
     (fact_with c.args.held.now.facts.now c.args.id) c.args.watchers.now _ c.loop-watcher.sights.items refl
     (take_all c.loop-watcher.watcher-index c.args.watchers.now (grind arith)) (c.loop-watcher.invariant.along ∙
-    long_as ids_of (sight c.args.held.now.land.now c.args.held.now.facts.now) c.args.sights.now.items c.args.held.now.facts.now c.requires.sights) c.loop-watcher.invariant.seen
+    long_as ids_of (sight c.args.held.now.land.now c.args.held.now.facts.now) c.args.sights.now.items c.args.held.now.facts.now c.requires.sights)
+    c.loop-watcher.invariant.seen
