@@ -2,12 +2,12 @@
 //! stands, before anything is changed.
 
 ghost use Rattle.std.specs.Prelude.{◌≡◌, ◌%◌, ◌<◌, false, ◌⊎◌, ◌++◌, length, IfSome, OnOk, Some, All};
-ghost use Rattle.sim_range.specs.{Areas.IsIn, Areas.IsInner, Common.fact_with, Common.Holds, Common.IsHeld, Common.IsLand};
-ghost use Rattle.sim_range.specs.Calling.{AreHeldOn, AreOnGround, AreSorted};
+ghost use Rattle.sim_range.specs.{Areas.IsIn, Areas.IsInner, Common.fact_with, Common.IsHeld, Common.IsLand};
+ghost use Rattle.sim_range.specs.Calling.{AreHeldOn, AreOnGround};
 ghost use Rattle.sim_range.specs.Sights.{AreChanging, AreInView, AreSights, SeesFrom, SeesWithin, sight, turned_seen, turned_watchers, view};
 
 use crate::area::{Span, area_of};
-use crate::bucket::Bucket;
+use crate::crowd::{Crowd, Held};
 use crate::inner::is_inner;
 use crate::sight::Sight;
 use crate::visions::Visions;
@@ -64,26 +64,25 @@ impl Plan {
     /// Finds them.
     pub fn find(
         &mut self,
-        land: &Land,
-        facts: &[Fact],
-        buckets: &[Bucket],
+        crowd: &Crowd<'_>,
         visions: &Visions,
         before: &Option<Fact>,
         after: &Option<Fact>,
     ) -> Result<(), OutOfMemory>
-        requires crowd { AreSorted land.now facts.now buckets.now }
-        requires near { All (SeesFrom visions.now.near) facts.now }
-        requires far { All (SeesWithin visions.now.far) facts.now }
-        requires parts { AreHeldOn land.now before.now after.now }
+        requires near { All (SeesFrom visions.now.near) crowd.now.facts.now }
+        requires far { All (SeesWithin visions.now.far) crowd.now.facts.now }
+        requires parts { AreHeldOn crowd.now.land.now before.now after.now }
         requires ends { AreOnGround before.now after.now }
         requires before_near { IfSome before.now (SeesFrom visions.now.near) }
         requires before_far { IfSome before.now (SeesWithin visions.now.far) }
         requires after_far { IfSome after.now (SeesWithin visions.now.far) }
-        ensures watchers { OnOk result (AreChanging land.now facts.now before.now after.now self.new.watchers.items) }
-        ensures seen { OnOk result (AreInView land.now facts.now before.now after.now self.new.seen.items) }
+        ensures watchers { OnOk result (AreChanging crowd.now.land.now crowd.now.facts.now before.now after.now self.new.watchers.items) }
+        ensures seen { OnOk result (AreInView crowd.now.land.now crowd.now.facts.now before.now after.now self.new.seen.items) }
     {
         self.watchers.clear();
         self.seen.clear();
+        let land = crowd.land;
+        let buckets = crowd.buckets;
         if !has_foes(land, before) && !has_foes(land, after) {
             return Ok(());
         }
@@ -99,26 +98,24 @@ impl Plan {
     /// Finds what an entity will see, if it is kept, after the rest was found.
     pub fn find_own(
         &mut self,
-        land: &Land,
-        facts: &[Fact],
+        held: &Held<'_>,
         sights: &[Sight],
         after: &Option<Fact>,
     ) -> Result<(), OutOfMemory>
-        requires holds { Holds land.now facts.now }
-        requires sights { AreSights land.now facts.now sights.now }
-        requires after { IfSome after.now (IsHeld land.now) }
-        requires seen { IfSome after.now (λ fact. AreInView land.now facts.now (fact_with facts.now fact.id) (Some fact) self.old.seen.items) }
+        requires sights { AreSights held.now.land.now held.now.facts.now sights.now }
+        requires after { IfSome after.now (IsHeld held.now.land.now) }
+        requires seen { IfSome after.now (λ fact. AreInView held.now.land.now held.now.facts.now (fact_with held.now.facts.now fact.id) (Some fact) self.old.seen.items) }
         ensures watchers { self.new.watchers.items ≡ self.old.watchers.items }
-        ensures own { OnOk result (IfSome after.now (λ fact. self.new.own.ids.items ≡ sight land.now facts.now fact)) }
+        ensures own { OnOk result (IfSome after.now (λ fact. self.new.own.ids.items ≡ sight held.now.land.now held.now.facts.now fact)) }
     {
         let Some(watcher) = after else {
             return Ok(());
         };
         self.own.ids.clear();
-        if let Ok(at) = place_of(facts, watcher.id) {
+        if let Ok(at) = place_of(held.facts, watcher.id) {
             self.own.copy_from(&sights[at])?;
         }
-        turn_own(&mut self.own, land, facts, self.seen.as_slice(), watcher)
+        turn_own(&mut self.own, held, self.seen.as_slice(), watcher)
     }
 }
 
@@ -141,21 +138,20 @@ fn is_concerned(
 // Changes what an entity saw before into what it sees as this watcher, where it begins to see these or sees them no more.
 fn turn_own(
     own: &mut Sight,
-    land: &Land,
-    facts: &[Fact],
+    held: &Held<'_>,
     seen: &[u32],
     watcher: &Fact,
 ) -> Result<(), OutOfMemory>
-    requires holds { Holds land.now facts.now }
-    requires watcher { IsHeld land.now watcher.now }
-    requires own { own.old.ids.items ≡ view land.now facts.now (fact_with facts.now watcher.now.id) }
-    requires seen { AreInView land.now facts.now (fact_with facts.now watcher.now.id) (Some watcher.now) seen.now }
-    ensures { OnOk result (own.new.ids.items ≡ sight land.now facts.now watcher.now) }
+    requires watcher { IsHeld held.now.land.now watcher.now }
+    requires own { own.old.ids.items ≡ view held.now.land.now held.now.facts.now (fact_with held.now.facts.now watcher.now.id) }
+    requires seen { AreInView held.now.land.now held.now.facts.now (fact_with held.now.facts.now watcher.now.id) (Some watcher.now) seen.now }
+    ensures { OnOk result (own.new.ids.items ≡ sight held.now.land.now held.now.facts.now watcher.now) }
 {
+    let facts = held.facts;
     for id in seen {
         if let Ok(at) = place_of(facts, *id) {
             own.make_room()?;
-            own.turn(*id, is_seen_by(land, watcher, &facts[at]));
+            own.turn(*id, is_seen_by(held.land, watcher, &facts[at]));
         }
     }
     Ok(())

@@ -7,6 +7,7 @@ ghost use Rattle.sim_range.specs.Common.{AreInRange, built, cleared, counted, fa
 
 use crate::bucket::Bucket;
 use crate::buckets::change;
+use crate::crowd::{Circle, Crowd};
 use crate::ready::{Sights, built_of, make_ready};
 use crate::seen::seen;
 use crate::within::within;
@@ -101,7 +102,15 @@ impl Range {
         let facts = self.kept.facts.as_slice();
         match self.kept(id) {
             Some(ids) => Ok(Ids::from_items(Vec::from_slice(alloc, ids)?)),
-            None => seen(alloc, land, facts, self.buckets.as_slice(), id),
+            None => {
+                let buckets = self.buckets.as_slice();
+                let crowd = Crowd {
+                    land,
+                    facts,
+                    buckets,
+                };
+                seen(alloc, &crowd, id)
+            }
         }
     }
 }
@@ -178,17 +187,21 @@ impl System for Range {
         let facts = self.kept.facts.as_slice();
         let buckets = self.buckets.as_slice();
         match (&self.kept.land, ask) {
-            (Some(land), Ask::Within { at, radius, mask }) => Ok(Answer::Many {
-                ids: within(
-                    self.kept.alloc,
+            (Some(land), Ask::Within { at, radius, mask }) => {
+                let crowd = Crowd {
                     land,
                     facts,
                     buckets,
-                    at,
-                    *radius,
-                    u32::from(*mask),
-                )?,
-            }),
+                };
+                let circle = Circle {
+                    at: *at,
+                    radius: *radius,
+                    mask: u32::from(*mask),
+                };
+                Ok(Answer::Many {
+                    ids: within(self.kept.alloc, &crowd, &circle)?,
+                })
+            }
             (Some(land), Ask::Seen { id }) => Ok(Answer::Many {
                 ids: self.seen_by(land, *id)?,
             }),

@@ -1,12 +1,13 @@
 //! A note in two steps: all that may want memory is made ready, and then it is taken up without any. So a note for which no
 //! memory is found leaves all as it was.
 
-ghost use Rattle.sim_range.specs.{Bucketed.AreBuckets, Bucketed.HaveRoom, Buckets.ArePlaced, Calling.AreSorted, Calling.Become, Calling.MayMakeReady};
+ghost use Rattle.sim_range.specs.{Bucketed.AreBuckets, Bucketed.HaveRoom, Buckets.ArePlaced, Calling.Become, Calling.MayMakeReady};
 ghost use Rattle.sim_range.specs.{Common.fact_with, Common.Holds, Common.IsHeld, Common.with_only, Keeping.AreKept, Keeping.AreReady};
 ghost use Rattle.std.specs.Prelude.{◌<◌, ◌≡◌, IfOk, IfSome, IsSome, IsTrue, length, OnOk, Some, vec_capacity, vec_len, ℕ};
 
 use crate::bucket::Bucket;
 use crate::buckets::{buckets_of, make_room};
+use crate::crowd::{Crowd, Held};
 use crate::plan::Plan;
 use crate::sight::Sight;
 use crate::sights::{make_rooms, put, sights_of, turn_all};
@@ -58,11 +59,17 @@ impl Sights {
             unreachable!()
         };
         let facts = kept.facts.as_slice();
+        let crowd = Crowd {
+            land,
+            facts,
+            buckets,
+        };
+        let held = Held { land, facts };
         self.visions = self.visions.widened(after);
         let plan = &mut self.plan;
-        plan.find(land, facts, buckets, &self.visions, before, after)?;
-        plan.find_own(land, facts, self.all.as_slice(), after)?;
-        make_rooms(&mut self.all, facts, self.plan.watchers.as_slice())?;
+        plan.find(&crowd, &self.visions, before, after)?;
+        plan.find_own(&held, self.all.as_slice(), after)?;
+        make_rooms(&mut self.all, &held, self.plan.watchers.as_slice())?;
         self.all.reserve(1)?;
         Ok(())
     }
@@ -84,35 +91,23 @@ impl Sights {
             unreachable!()
         };
         let facts = kept.facts.as_slice();
-        turn_all(
-            &mut self.all,
-            land,
-            facts,
-            self.plan.watchers.as_slice(),
-            id,
-            after,
-        );
-        put(&mut self.all, land, facts, id, after, &mut self.plan.own);
+        let held = Held { land, facts };
+        let watchers = self.plan.watchers.as_slice();
+        turn_all(&mut self.all, &held, watchers, id, after);
+        put(&mut self.all, &held, id, after, &mut self.plan.own);
     }
 }
 
 // What all of these facts see, if it is kept.
-fn sights_for(
-    alloc: Global,
-    keeps: bool,
-    land: &Land,
-    facts: &[Fact],
-    buckets: &[Bucket],
-) -> Result<Sights, OutOfMemory>
-    requires { AreSorted land.now facts.now buckets.now }
+fn sights_for(alloc: Global, keeps: bool, crowd: &Crowd<'_>) -> Result<Sights, OutOfMemory>
     ensures keeps { IfOk result (λ sights. sights.keeps ≡ keeps) }
-    ensures kept { IfOk result (λ sights. IsTrue keeps → AreKept (Some land.now) facts.now sights) }
+    ensures kept { IfOk result (λ sights. IsTrue keeps → AreKept (Some crowd.now.land.now) crowd.now.facts.now sights) }
 {
     if !keeps {
         return Ok(Sights::new(alloc, keeps));
     }
-    let all = sights_of(alloc, land, facts, buckets)?;
-    let visions = visions_of(facts);
+    let all = sights_of(alloc, crowd)?;
+    let visions = visions_of(crowd.facts);
     let plan = Plan::new(alloc);
     Ok(Sights {
         keeps,
@@ -144,7 +139,12 @@ pub fn built_of(
     ensures kept { IfOk result (λ built. IsTrue keeps → AreKept (Some land.now) facts.now built.sights) }
 {
     let buckets = buckets_of(alloc, facts)?;
-    let sights = sights_for(alloc, keeps, land, facts, buckets.as_slice())?;
+    let crowd = Crowd {
+        land,
+        facts,
+        buckets: buckets.as_slice(),
+    };
+    let sights = sights_for(alloc, keeps, &crowd)?;
     Ok(Built { buckets, sights })
 }
 

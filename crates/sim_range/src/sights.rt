@@ -2,32 +2,26 @@
 //! changes whether they see it.
 
 ghost use Rattle.std.specs.Prelude.{◌≡◌, ℕ, ◌<◌, map, length, IfSome, IfOk, OnOk, IsSome, IsTrue, slice_index_or, vec_len, vec_capacity};
-ghost use Rattle.sim_range.specs.Calling.{AreSorted};
-ghost use Rattle.sim_range.specs.Common.{Ascend, fact_with, Holds, IsHeld, IsStrictlyIncreasing, with_only};
+ghost use Rattle.sim_range.specs.Common.{fact_with, IsHeld, IsStrictlyIncreasing, with_only};
 ghost use Rattle.sim_range.specs.Sights.{AreChanging, AreSights, HasPlace, HaveRooms, ids_at, ids_of, sight as sight_among, turned};
 
-use crate::bucket::Bucket;
+use crate::crowd::{Crowd, Held};
 use crate::seen::sight_of;
 use crate::sight::Sight;
 use crate::watchers::is_seen;
-use sim_base::{Land, OutOfMemory};
+use sim_base::OutOfMemory;
 use sim_fact_lists::place_of;
 use sim_system::Fact;
 use std::alloc::Global;
 
 /// What each of these facts sees.
-pub fn sights_of(
-    alloc: Global,
-    land: &Land,
-    facts: &[Fact],
-    buckets: &[Bucket],
-) -> Result<Vec<Sight>, OutOfMemory>
-    requires { AreSorted land.now facts.now buckets.now }
-    ensures { IfOk result (λ all. AreSights land.now facts.now all.items) }
+pub fn sights_of(alloc: Global, crowd: &Crowd<'_>) -> Result<Vec<Sight>, OutOfMemory>
+    ensures { IfOk result (λ all. AreSights crowd.now.land.now crowd.now.facts.now all.items) }
 {
     let mut all = Vec::new(alloc);
+    let facts = crowd.facts;
     for fact in facts {
-        all.push(sight_of(alloc, land, facts, buckets, fact)?)?;
+        all.push(sight_of(alloc, crowd, fact)?)?;
     }
     Ok(all)
 }
@@ -46,15 +40,15 @@ fn make_room_at(sights: &mut Vec<Sight>, at: usize) -> Result<(), OutOfMemory>
 /// Makes room for one more in the sights of these watchers.
 pub fn make_rooms(
     sights: &mut Vec<Sight>,
-    facts: &[Fact],
+    held: &Held<'_>,
     watchers: &[u32],
 ) -> Result<(), OutOfMemory>
-    requires ascending { Ascend facts.now }
-    requires along { length sights.old.items ≡ length facts.now }
+    requires { length sights.old.items ≡ length held.now.facts.now }
     ensures along { length sights.new.items ≡ length sights.old.items }
     ensures same { (k : ℕ) (d : Sight) → ids_at sights.new.items k d ≡ ids_at sights.old.items k d }
-    ensures room { OnOk result (HaveRooms facts.now watchers.now sights.new.items) }
+    ensures room { OnOk result (HaveRooms held.now.facts.now watchers.now sights.new.items) }
 {
+    let facts = held.facts;
     for watcher in watchers {
         if let Ok(at) = place_of(facts, *watcher) {
             make_room_at(sights, at)?;
@@ -79,46 +73,38 @@ fn turn_at(sights: &mut Vec<Sight>, at: usize, id: u32, seen: bool)
 /// Changes what these watchers see as what is kept of an entity has changed. The room was made before.
 pub fn turn_all(
     sights: &mut Vec<Sight>,
-    land: &Land,
-    facts: &[Fact],
+    held: &Held<'_>,
     watchers: &[u32],
     id: u32,
     after: &Option<Fact>,
 )
-    requires holds { Holds land.now facts.now }
-    requires after { IfSome after.now (IsHeld land.now) }
+    requires after { IfSome after.now (IsHeld held.now.land.now) }
     requires named { IfSome after.now (λ fact. fact.id ≡ id) }
-    requires sights { AreSights land.now facts.now sights.old.items }
-    requires room { HaveRooms facts.now watchers.now sights.old.items }
+    requires sights { AreSights held.now.land.now held.now.facts.now sights.old.items }
+    requires room { HaveRooms held.now.facts.now watchers.now sights.old.items }
     ensures along { length sights.new.items ≡ length sights.old.items }
-    ensures changed { AreChanging land.now facts.now (fact_with facts.now id) after.now watchers.now → map ids_of sights.new.items ≡
-        map (sight_among land.now (with_only id after.now facts.now)) facts.now }
+    ensures changed { AreChanging held.now.land.now held.now.facts.now (fact_with held.now.facts.now id) after.now watchers.now → map ids_of sights.new.items ≡
+        map (sight_among held.now.land.now (with_only id after.now held.now.facts.now)) held.now.facts.now }
     ensures room { vec_len sights.old < vec_capacity sights.old → vec_len sights.new < vec_capacity sights.new }
 {
+    let facts = held.facts;
     for watcher in watchers {
         if let Ok(at) = place_of(facts, *watcher) {
-            turn_at(sights, at, id, is_seen(land, &facts[at], after));
+            turn_at(sights, at, id, is_seen(held.land, &facts[at], after));
         }
     }
 }
 
 /// Keeps what an entity sees, where it is kept, and nothing else of it. Where it is new, the room was made before. What it saw
 /// before is left in its place.
-pub fn put(
-    sights: &mut Vec<Sight>,
-    land: &Land,
-    facts: &[Fact],
-    id: u32,
-    part: &Option<Fact>,
-    own: &mut Sight,
-)
-    requires ascending { Ascend facts.now }
+pub fn put(sights: &mut Vec<Sight>, held: &Held<'_>, id: u32, part: &Option<Fact>, own: &mut Sight)
     requires named { IfSome part.now (λ fact. fact.id ≡ id) }
-    requires own { IfSome part.now (λ fact. own.old.ids.items ≡ sight_among land.now (with_only id part.now facts.now) fact) }
-    requires sights { map ids_of sights.old.items ≡ map (sight_among land.now (with_only id part.now facts.now)) facts.now }
+    requires own { IfSome part.now (λ fact. own.old.ids.items ≡ sight_among held.now.land.now (with_only id part.now held.now.facts.now) fact) }
+    requires sights { map ids_of sights.old.items ≡ map (sight_among held.now.land.now (with_only id part.now held.now.facts.now)) held.now.facts.now }
     requires room { IsSome part.now → vec_len sights.old < vec_capacity sights.old }
-    ensures { AreSights land.now (with_only id part.now facts.now) sights.new.items }
+    ensures { AreSights held.now.land.now (with_only id part.now held.now.facts.now) sights.new.items }
 {
+    let facts = held.facts;
     match (place_of(facts, id), part) {
         (Ok(at), Some(_)) => std::mem::swap(&mut sights[at], own),
         (Ok(at), None) => {

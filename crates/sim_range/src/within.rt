@@ -1,10 +1,11 @@
 //! Who is near a point: looked for in the buckets about it, or among all where these would be many.
 
 ghost use Rattle.std.specs.Prelude.{◌≡◌, ◌/◌, ◌<◌, ◌≤◌, ◌&&◌, ◌++◌, length, ℤ, pos, ◌-ℤ◌, ◌≤ℤ◌, IfOk, OnOk, IsTrue, unsigned_abs, All};
-ghost use Rattle.sim_range.specs.{Buckets.bucket_at, Calling.AreSorted};
+ghost use Rattle.sim_range.specs.Buckets.{bucket_at};
 ghost use Rattle.sim_range.specs.Common.{in_mask as in_mask_of, is_inside, is_near as is_near_of, IsHeld, IsLand, IsPlaced, size_of, within_among};
 
 use crate::bucket::Bucket;
+use crate::crowd::{Circle, Crowd};
 use sim_base::{Fixed, Ids, Land, OutOfMemory, Point, square};
 use sim_system::Fact;
 use std::alloc::Global;
@@ -50,17 +51,15 @@ fn push_near(
     ids: &mut Vec<u32>,
     land: &Land,
     facts: &[Fact],
-    at: &Point,
-    radius: Fixed,
-    mask: u32,
+    circle: &Circle,
 ) -> Result<(), OutOfMemory>
     requires limits { IsLand land.now }
     requires held { All (IsHeld land.now) facts.now }
-    requires at { IsTrue (is_inside (size_of land.now) at.now) }
-    ensures { OnOk result (ids.new.items ≡ ids.old.items ++ within_among facts.now at.now radius mask) }
+    requires at { IsTrue (is_inside (size_of land.now) circle.now.at) }
+    ensures { OnOk result (ids.new.items ≡ ids.old.items ++ within_among facts.now circle.now.at circle.now.radius circle.now.mask) }
 {
     for fact in facts {
-        if is_within(land, fact, at, radius, mask) {
+        if is_within(land, fact, &circle.at, circle.radius, circle.mask) {
             ids.push(fact.id)?;
         }
     }
@@ -101,29 +100,23 @@ fn is_crowded(facts: &[Fact], buckets: &[Bucket], at: &Point, reach: u32) -> boo
     count > facts.len() / 4
 }
 
-/// The entities with health of the masked owners that are near a point.
-pub fn within(
-    alloc: Global,
-    land: &Land,
-    facts: &[Fact],
-    buckets: &[Bucket],
-    at: &Point,
-    radius: Fixed,
-    mask: u32,
-) -> Result<Ids, OutOfMemory>
-    requires crowd { AreSorted land.now facts.now buckets.now }
-    requires at { IsTrue (is_inside (size_of land.now) at.now) }
-    ensures { IfOk result (λ ids. ids ≡ within_among facts.now at.now radius mask) }
+/// The entities with health that are asked for.
+pub fn within(alloc: Global, crowd: &Crowd<'_>, circle: &Circle) -> Result<Ids, OutOfMemory>
+    requires { IsTrue (is_inside (size_of crowd.now.land.now) circle.now.at) }
+    ensures { IfOk result (λ ids. ids ≡ within_among crowd.now.facts.now circle.now.at circle.now.radius circle.now.mask) }
 {
-    let reach = reach_of(radius);
+    let land = crowd.land;
+    let facts = crowd.facts;
+    let buckets = crowd.buckets;
+    let reach = reach_of(circle.radius);
     let mut ids = Vec::new(alloc);
-    if is_crowded(facts, buckets, at, reach) {
-        push_near(&mut ids, land, facts, at, radius, mask)?;
+    if is_crowded(facts, buckets, &circle.at, reach) {
+        push_near(&mut ids, land, facts, circle)?;
         return Ok(Ids::from_items(ids));
     }
     for (number, bucket) in buckets.iter().enumerate() {
-        if touches(number, at, reach) {
-            push_near(&mut ids, land, bucket.facts.as_slice(), at, radius, mask)?;
+        if touches(number, &circle.at, reach) {
+            push_near(&mut ids, land, bucket.facts.as_slice(), circle)?;
         }
     }
     ids.sort_unstable();

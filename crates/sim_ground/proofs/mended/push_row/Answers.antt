@@ -18,12 +18,12 @@ loop-x-preserved c = record {
   from = omega (arith, c.loop-x.invariant.from);
   adds = adds_more c.args.grid.now (label_in c.args.labels.now) (in_row c.args.z c.args.window.west c.loop-x.x)
       (λ (e : Cell). same_cell e (record { x = c.loop-x.x; z = c.args.z })) (in_row c.args.z c.args.window.west (c.loop-x.x + 1)) c.args.cells.now.items
-      c.loop-x.cells.items c.push_turned.new.cells.items (λ e. row_more c.args.z c.args.window.west c.loop-x.x e c.loop-x.invariant.from) c.loop-x.invariant.adds
-      c.in_ok-push_turned.ensures;
+      c.loop-x.cells.items c.push_turned.new.cells.items (λ e. row_more c.args.z c.args.window.west c.loop-x.x e c.loop-x.invariant.from)
+      c.loop-x.invariant.adds c.in_ok-push_turned.ensures;
 }
 
 pub returns : goal.returns
 returns c =
     let end : c.loop-x.x ≡ c.args.window.east = omega (arith, c.loop-x.auto.x-end, c.loop-x-test.false, c.requires.on.order) in
-    subst (λ (n : ℕ). AddsTurned c.args.grid.now (label_in c.args.labels.now) (in_row c.args.z c.args.window.west n) c.args.cells.now.items c.loop-x.cells.items) end
-    c.loop-x.invariant.adds
+    subst (λ (n : ℕ). AddsTurned c.args.grid.now (label_in c.args.labels.now) (in_row c.args.z c.args.window.west n) c.args.cells.now.items
+    c.loop-x.cells.items) end c.loop-x.invariant.adds

@@ -7,27 +7,30 @@ use Rattle.sim_range.proofs.sights.turn_all.Goals as goal
 pub loop-watcher-init : goal.loop-watcher-init
 loop-watcher-init c = record {
   along = refl;
-  seen = λ i f d lt. read_map ids_of (sight c.args.land.now c.args.facts.now) c.args.sights.now.items c.args.facts.now i d f c.requires.sights lt;
+  seen = λ i f d lt. read_map ids_of (sight c.args.held.now.land.now c.args.held.now.facts.now) c.args.sights.now.items c.args.held.now.facts.now i d f
+      c.requires.sights lt;
   room = λ i f d lt among none. c.requires.room i f d lt among;
   more = λ room. room;
 }
 
 pub turn_at-requires-clause-ascending : goal.turn_at-requires-clause-ascending
 turn_at-requires-clause-ascending c =
-    ready_up c.args.land.now c.args.id c.args.after.now c.args.facts.now c.requires.holds.held.ascending c.requires.named c.args.watchers.now
+    ready_up c.args.held.now.land.now c.args.id c.args.after.now c.args.held.now.facts.now c.args.held.now.holds.held.ascending c.requires.named
+    c.args.watchers.now
     c.loop-watcher.watcher-index (grind arith) c.loop-watcher.sights.items c.loop-watcher.invariant.seen c.loop-watcher.invariant.room
     c.in-Ok.at c.in-Ok.ensures c.index-facts-at.result c.index-facts-at.is
 
 pub turn_at-requires-clause-room : goal.turn_at-requires-clause-room
 turn_at-requires-clause-room c =
-    ready_room c.args.land.now c.args.id c.args.after.now c.args.facts.now c.requires.holds.held.ascending c.requires.named c.args.watchers.now
+    ready_room c.args.held.now.land.now c.args.id c.args.after.now c.args.held.now.facts.now c.args.held.now.holds.held.ascending c.requires.named
+    c.args.watchers.now
     c.loop-watcher.watcher-index (grind arith) c.loop-watcher.sights.items c.loop-watcher.invariant.seen c.loop-watcher.invariant.room
     c.in-Ok.at c.in-Ok.ensures c.index-facts-at.result c.index-facts-at.is c.is_seen.result c.is_seen.ensures
 
 pub loop-watcher-preserved : goal.loop-watcher-preserved
 loop-watcher-preserved c =
-    let land = c.args.land.now in
-    let facts = c.args.facts.now in
+    let land = c.args.held.now.land.now in
+    let facts = c.args.held.now.facts.now in
     let watchers = c.args.watchers.now in
     let j = c.loop-watcher.watcher-index in
     let old = c.loop-watcher.sights.items in
@@ -39,11 +42,11 @@ loop-watcher-preserved c =
           record {
             along = ap (λ (ss : List Sight). length ss) is ∙ w.turn_at.ensures.along ∙ kept.along;
             seen = λ i f d lt. ap (λ (ss : List Sight). ids_at ss i d) is
-                ∙ next_seen land c.args.id c.args.after.now facts c.requires.holds.held.ascending c.requires.named watchers j (grind arith) old kept.seen
+                ∙ next_seen land c.args.id c.args.after.now facts c.args.held.now.holds.held.ascending c.requires.named watchers j (grind arith) old kept.seen
                 kept.room w.in-Ok.at w.in-Ok.ensures w.index-facts-at.result w.index-facts-at.is new w.turn_at.ensures.others w.is_seen.result
                 w.is_seen.ensures w.turn_at.ensures.there i f d lt;
             room = λ i f d lt among none. subst (λ (ss : List Sight). vec_len (get_or ss i d).ids < vec_capacity (get_or ss i d).ids) (sym is)
-                (next_room land c.args.id c.args.after.now facts c.requires.holds.held.ascending c.requires.named watchers j (grind arith) old kept.seen
+                (next_room land c.args.id c.args.after.now facts c.args.held.now.holds.held.ascending c.requires.named watchers j (grind arith) old kept.seen
                 kept.room w.in-Ok.at w.in-Ok.ensures w.index-facts-at.result w.index-facts-at.is new w.turn_at.ensures.others i f d lt among
                 none);
             more = λ room. subst (λ (v : _). vec_len v < vec_capacity v) (sym w.sights-is) (w.turn_at.ensures.room (kept.more room));
@@ -53,10 +56,10 @@ loop-watcher-preserved c =
           record {
             along = ap (λ (ss : List Sight). length ss) is ∙ kept.along;
             seen = λ i f d lt. ap (λ (ss : List Sight). ids_at ss i d) is
-                ∙ same_seen land c.args.id c.args.after.now facts c.requires.holds.held.ascending c.requires.named watchers j (grind arith) old kept.seen
+                ∙ same_seen land c.args.id c.args.after.now facts c.args.held.now.holds.held.ascending c.requires.named watchers j (grind arith) old kept.seen
                 kept.room w.in_default.field-0 w.in_default.ensures i f d lt;
             room = λ i f d lt among none. subst (λ (ss : List Sight). vec_len (get_or ss i d).ids < vec_capacity (get_or ss i d).ids) (sym is)
-                (same_room land c.args.id c.args.after.now facts c.requires.holds.held.ascending c.requires.named watchers j (grind arith) old kept.seen
+                (same_room land c.args.id c.args.after.now facts c.args.held.now.holds.held.ascending c.requires.named watchers j (grind arith) old kept.seen
                 kept.room w.in_default.field-0 w.in_default.ensures i f d lt among none);
             more = λ room. subst (λ (v : _). vec_len v < vec_capacity v) (sym w.sights-is) (kept.more room);
           })
@@ -64,7 +67,8 @@ loop-watcher-preserved c =
 
 pub returns-clause-changed : goal.returns-clause-changed
 returns-clause-changed c =
-    all_turned c.args.land.now c.args.id c.args.after.now c.args.facts.now c.requires.holds.held.ascending c.requires.named
-    (fact_with c.args.facts.now c.args.id) c.args.watchers.now _ c.loop-watcher.sights.items refl
+    all_turned c.args.held.now.land.now c.args.id c.args.after.now c.args.held.now.facts.now c.args.held.now.holds.held.ascending c.requires.named
+    (fact_with c.args.held.now.facts.now c.args.id) c.args.watchers.now _ c.loop-watcher.sights.items refl
     (take_all c.loop-watcher.watcher-index c.args.watchers.now (grind arith)) (c.loop-watcher.invariant.along ∙
-    long_as ids_of (sight c.args.land.now c.args.facts.now) c.args.sights.now.items c.args.facts.now c.requires.sights) c.loop-watcher.invariant.seen
+    long_as ids_of (sight c.args.held.now.land.now c.args.held.now.facts.now) c.args.sights.now.items c.args.held.now.facts.now c.requires.sights)
+    c.loop-watcher.invariant.seen

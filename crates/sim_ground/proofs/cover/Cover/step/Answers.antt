@@ -1,5 +1,6 @@
 -- The layers of one cell are set.
-use Rattle.sim_ground.proofs.{Common.◌≡◌, Common.ℕ, Common.◌+◌, Common.◌*◌, Common.ap, Common.OpenCells, Common.place_of, Common.refl, Common.◌∙◌, Layers.step_layers}
+use Rattle.sim_ground.proofs.Common.{◌≡◌, ℕ, ◌+◌, ◌*◌, ap, OpenCells, place_of, refl, ◌∙◌}
+use Rattle.sim_ground.proofs.Layers.{step_layers}
 use Rattle.sim_ground.proofs.cover.Cover.step.Goals as goal
 
 pub returns-then-before-after : goal.returns-then-before-after

@@ -4,9 +4,9 @@ use Rattle.sim_range.proofs.Own.{saw, saw_none}
 
 pub turn_own-requires-clause-own : Rattle.sim_range.proofs.plan.Plan.find_own.Goals.turn_own-requires-clause-own
 turn_own-requires-clause-own c =
-    let land = c.args.land.now in
-    let facts = c.args.facts.now in
-    let up = c.requires.holds.held.ascending in
+    let land = c.args.held.now.land.now in
+    let facts = c.args.held.now.facts.now in
+    let up = c.args.held.now.holds.held.ascending in
     elim c.match-place_of.branch [
       | in-Ok+in_ok-copy_from w ↦
           saw land facts c.args.sights.now up c.requires.sights c.in-Some.watcher.id w.in-Ok.at _ w.index-sights-at.result c.in-Some.watcher w.in-Ok.ensures

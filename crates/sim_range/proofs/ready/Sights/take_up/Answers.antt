@@ -1,13 +1,10 @@
 -- What an entity sees itself does not depend on it.
 use Rattle.sim_range.proofs.{Keeping.taken_up, Lending.all_only, Seeing.own_is}
-use Rattle.sim_range.proofs.Common.{List, AreChanging, Ascend, Fact, fact_with, Holds, SeesFrom, SeesWithin, subst, sym}
+use Rattle.sim_range.proofs.Common.{List, AreChanging, Fact, fact_with, Holds, SeesFrom, SeesWithin, subst, sym}
 use Rattle.sim_range.proofs.ready.Sights.take_up.Goals as goal
 
-pub turn_all-requires-clause-holds : goal.turn_all-requires-clause-holds
-turn_all-requires-clause-holds c = subst (Holds c.in-Some.land) (sym c.as_slice-facts.ensures.value) (c.args.kept.now.held c.in-Some.land c.in-Some.is)
-
-pub put-requires-clause-ascending : goal.put-requires-clause-ascending
-put-requires-clause-ascending c = subst Ascend (sym c.as_slice-facts.ensures.value) (c.args.kept.now.held c.in-Some.land c.in-Some.is).held.ascending
+pub invariant_of-held : goal.invariant_of-held
+invariant_of-held c = record { holds = subst (Holds c.in-Some.land) (sym c.as_slice-facts.ensures.value) (c.args.kept.now.held c.in-Some.land c.in-Some.is) }
 
 pub put-requires-clause-own : goal.put-requires-clause-own
 put-requires-clause-own c =
@@ -19,7 +16,7 @@ pub put-requires-clause-sights : goal.put-requires-clause-sights
 put-requires-clause-sights c =
     c.turn_all.ensures.changed
     (subst (AreChanging c.in-Some.land c.as_slice-facts.result.now (fact_with c.as_slice-facts.result.now c.args.id) c.args.after.now)
-    (sym c.as_slice.ensures.value)
+    (sym c.as_slice-watchers.ensures.value)
     (subst (λ (fs : List Fact). AreChanging c.in-Some.land fs (fact_with fs c.args.id) c.args.after.now c.args.self.now.plan.watchers.items)
     (sym c.as_slice-facts.ensures.value) ((c.requires.ready c.if-not-self.false).changing c.in-Some.land c.in-Some.is)))
 
