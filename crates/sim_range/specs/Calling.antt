@@ -1,8 +1,15 @@
 -- What is given to the calls here, and what becomes of it: the facts of several calls by name.
 use Rattle.std.specs.Prelude.{◌≡◌, ℕ, ◌<◌, List, length, IfSome, IsSome, IsTrue, Some, Option}
 use Rattle.sim_range.specs.{Bucketed.AreBuckets, Bucketed.facts_at, Buckets.ArePlaced, Keeping.AreKept, Sights.SeesFrom, Sights.SeesWithin}
-use Rattle.sim_range.specs.Common.{Fact, fact_with, IsHeld, IsPlaced, Land}
+use Rattle.sim_range.specs.Common.{Fact, fact_with, Holds, IsHeld, IsPlaced, Land}
 use Rattle.sim_range.specs.declared.{bucket.Bucket.Bucket, ready.Sights.Sights}
+
+-- entities are held on a land, and each stands in its bucket, of which there are 256
+pub record AreSorted (land : Land) (facts : List Fact) (buckets : List Bucket) : Type 0 where
+  pub holds : Holds land facts
+  pub placed : ArePlaced facts
+  pub bucketed : AreBuckets facts buckets
+  pub whole : length buckets ≡ 256
 
 -- an entity stood on the largest ground where it was kept, if it was, and stands on it where it is kept, if it is
 pub record AreOnGround (before after : Option Fact) : Type 0 where

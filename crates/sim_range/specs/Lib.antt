@@ -1,7 +1,6 @@
 pub mod Common
 pub mod Buckets
 pub mod Bucketed
-pub mod Crowds
 pub mod Nearness
 pub mod Sights
 pub mod Areas

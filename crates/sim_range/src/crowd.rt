@@ -1,32 +1,23 @@
-//! What is handed to those who look: the entities that are held on a land, and where each of them stands in its bucket.
+//! What all who look for entities are lent together, so that no call is handed a land, facts and buckets of different moments.
 
-ghost use Rattle.sim_range.specs.{Common.Holds, Crowds.AreSorted};
+ghost use Rattle.sim_range.specs.{Calling.AreSorted, Common.Holds};
 
 use crate::bucket::Bucket;
-use sim_base::{Fixed, Land, Point};
+use sim_base::Land;
 use sim_system::Fact;
 
-/// A land and the facts that are held on it.
-#[derive(Drop)]
+/// Facts, and the land on which they are held.
+#[derive(Clone, Copy)]
 pub struct Held<'a> {
     pub land: &'a Land,
     pub facts: &'a [Fact],
     ghost holds: { Holds land.now facts.now },
 }
 
-/// The same with the buckets of these facts.
-#[derive(Drop)]
+/// Those who are held on a land, and who of them stands in which bucket.
+#[derive(Clone, Copy)]
 pub struct Crowd<'a> {
-    pub land: &'a Land,
-    pub facts: &'a [Fact],
+    pub held: Held<'a>,
     pub buckets: &'a [Bucket],
-    ghost sorted: { AreSorted land.now facts.now buckets.now },
-}
-
-/// Who is asked for: those of the owners with a bit in the mask, at most the radius away from a point.
-#[derive(Clone, Copy, Debug)]
-pub struct Circle {
-    pub at: Point,
-    pub radius: Fixed,
-    pub mask: u32,
+    ghost sorted: { AreSorted held.land.now held.facts.now buckets.now },
 }

@@ -9,7 +9,7 @@
 //! - `range`: the system.
 //! - `bucket`: who stands in one bucket.
 //! - `buckets`: who stands in which bucket of 16 by 16 cells.
-//! - `crowd`: who is held, and in which buckets, as it is handed to those who look.
+//! - `crowd`: the land, the facts and the buckets, as they are lent together.
 //! - `within`: who is near a point, by the buckets about it.
 //! - `seen`: whom an entity sees, looked for.
 //! - `ready`: a note, made ready and taken up.

@@ -69,27 +69,26 @@ impl Plan {
         before: &Option<Fact>,
         after: &Option<Fact>,
     ) -> Result<(), OutOfMemory>
-        requires near { All (SeesFrom visions.now.near) crowd.now.facts.now }
-        requires far { All (SeesWithin visions.now.far) crowd.now.facts.now }
-        requires parts { AreHeldOn crowd.now.land.now before.now after.now }
+        requires near { All (SeesFrom visions.now.near) crowd.now.held.facts.now }
+        requires far { All (SeesWithin visions.now.far) crowd.now.held.facts.now }
+        requires parts { AreHeldOn crowd.now.held.land.now before.now after.now }
         requires ends { AreOnGround before.now after.now }
         requires before_near { IfSome before.now (SeesFrom visions.now.near) }
         requires before_far { IfSome before.now (SeesWithin visions.now.far) }
         requires after_far { IfSome after.now (SeesWithin visions.now.far) }
-        ensures watchers { OnOk result (AreChanging crowd.now.land.now crowd.now.facts.now before.now after.now self.new.watchers.items) }
-        ensures seen { OnOk result (AreInView crowd.now.land.now crowd.now.facts.now before.now after.now self.new.seen.items) }
+        ensures watchers { OnOk result (AreChanging crowd.now.held.land.now crowd.now.held.facts.now before.now after.now self.new.watchers.items) }
+        ensures seen { OnOk result (AreInView crowd.now.held.land.now crowd.now.held.facts.now before.now after.now self.new.seen.items) }
     {
         self.watchers.clear();
         self.seen.clear();
-        let land = crowd.land;
-        let buckets = crowd.buckets;
-        if !has_foes(land, before) && !has_foes(land, after) {
+        if !has_foes(crowd.held.land, before) && !has_foes(crowd.held.land, after) {
             return Ok(());
         }
         let area = area_of(before, after, visions.far);
         for number in area.rows.first * 16..area.rows.end * 16 {
             if is_concerned(number, &area.columns, before, after, visions.near) {
-                self.push(land, buckets[number].facts.as_slice(), before, after)?;
+                let facts = crowd.buckets[number].facts.as_slice();
+                self.push(crowd.held.land, facts, before, after)?;
             }
         }
         Ok(())
@@ -104,7 +103,8 @@ impl Plan {
     ) -> Result<(), OutOfMemory>
         requires sights { AreSights held.now.land.now held.now.facts.now sights.now }
         requires after { IfSome after.now (IsHeld held.now.land.now) }
-        requires seen { IfSome after.now (λ fact. AreInView held.now.land.now held.now.facts.now (fact_with held.now.facts.now fact.id) (Some fact) self.old.seen.items) }
+        requires seen { IfSome after.now (λ fact. AreInView held.now.land.now held.now.facts.now (fact_with held.now.facts.now fact.id) (Some fact)
+            self.old.seen.items) }
         ensures watchers { self.new.watchers.items ≡ self.old.watchers.items }
         ensures own { OnOk result (IfSome after.now (λ fact. self.new.own.ids.items ≡ sight held.now.land.now held.now.facts.now fact)) }
     {
@@ -147,11 +147,10 @@ fn turn_own(
     requires seen { AreInView held.now.land.now held.now.facts.now (fact_with held.now.facts.now watcher.now.id) (Some watcher.now) seen.now }
     ensures { OnOk result (own.new.ids.items ≡ sight held.now.land.now held.now.facts.now watcher.now) }
 {
-    let facts = held.facts;
     for id in seen {
-        if let Ok(at) = place_of(facts, *id) {
+        if let Ok(at) = place_of(held.facts, *id) {
             own.make_room()?;
-            own.turn(*id, is_seen_by(held.land, watcher, &facts[at]));
+            own.turn(*id, is_seen_by(held.land, watcher, &held.facts[at]));
         }
     }
     Ok(())

@@ -7,10 +7,9 @@ ghost use Rattle.sim_range.specs.Common.{AreInRange, built, cleared, counted, fa
 
 use crate::bucket::Bucket;
 use crate::buckets::change;
-use crate::crowd::{Circle, Crowd};
+use crate::crowd::{Crowd, Held};
 use crate::ready::{Sights, built_of, make_ready};
-use crate::seen::seen;
-use crate::within::within;
+use crate::within::Circle;
 use sim_base::{Ids, Land, OutOfMemory};
 use sim_fact_lists::{Kept, id_of, part_after, place_of};
 use sim_system::{Answer, Ask, Fact, Kind, Note, System};
@@ -92,6 +91,23 @@ impl Range {
         Some(self.sights.all[at].ids.as_slice())
     }
 
+    // Lends what is asked of.
+    #[inline(always)]
+    fn crowd_on<'a>(&'a self, land: &'a Land) -> Crowd<'a>
+        requires { self.now.kept.land ≡ Some land.now }
+        ensures land { result.held.land.now ≡ land.now }
+        ensures facts { result.held.facts.now ≡ self.now.kept.facts.items }
+        ensures buckets { result.buckets.now ≡ self.now.buckets.items }
+    {
+        Crowd {
+            held: Held {
+                land,
+                facts: self.kept.facts.as_slice(),
+            },
+            buckets: self.buckets.as_slice(),
+        }
+    }
+
     // Whom an entity sees: a list of what is lent of it, or looked for.
     fn seen_by(&self, land: &Land, id: u32) -> Result<Ids, OutOfMemory>
         requires land { self.now.kept.land ≡ Some land.now }
@@ -99,18 +115,9 @@ impl Range {
         ensures { IfOk result (λ ids. ids ≡ seen_among land.now self.now.kept.facts.items (fact_with self.now.kept.facts.items id)) }
     {
         let alloc = self.kept.alloc;
-        let facts = self.kept.facts.as_slice();
         match self.kept(id) {
             Some(ids) => Ok(Ids::from_items(Vec::from_slice(alloc, ids)?)),
-            None => {
-                let buckets = self.buckets.as_slice();
-                let crowd = Crowd {
-                    land,
-                    facts,
-                    buckets,
-                };
-                seen(alloc, &crowd, id)
-            }
+            None => self.crowd_on(land).seen(alloc, id),
         }
     }
 }
@@ -143,12 +150,11 @@ impl System for Range {
         self.buckets = Vec::new(self.kept.alloc);
         self.sights = Sights::new(self.kept.alloc, self.sights.keeps);
         self.kept.rebuild(Kind::Range, land, facts)?;
-        match built_of(
-            self.kept.alloc,
-            self.sights.keeps,
+        let held = Held {
             land,
-            self.kept.facts.as_slice(),
-        ) {
+            facts: self.kept.facts.as_slice(),
+        };
+        match built_of(self.kept.alloc, self.sights.keeps, &held) {
             Ok(built) => {
                 self.buckets = built.buckets;
                 self.sights = built.sights;
@@ -184,22 +190,15 @@ impl System for Range {
     }
 
     fn ask(&self, ask: &Ask) -> Result<Answer, OutOfMemory> {
-        let facts = self.kept.facts.as_slice();
-        let buckets = self.buckets.as_slice();
         match (&self.kept.land, ask) {
             (Some(land), Ask::Within { at, radius, mask }) => {
-                let crowd = Crowd {
-                    land,
-                    facts,
-                    buckets,
-                };
                 let circle = Circle {
                     at: *at,
                     radius: *radius,
                     mask: u32::from(*mask),
                 };
                 Ok(Answer::Many {
-                    ids: within(self.kept.alloc, &crowd, &circle)?,
+                    ids: self.crowd_on(land).within(self.kept.alloc, &circle)?,
                 })
             }
             (Some(land), Ask::Seen { id }) => Ok(Answer::Many {

@@ -2,7 +2,7 @@
 //! memory is found leaves all as it was.
 
 ghost use Rattle.sim_range.specs.{Bucketed.AreBuckets, Bucketed.HaveRoom, Buckets.ArePlaced, Calling.Become, Calling.MayMakeReady};
-ghost use Rattle.sim_range.specs.{Common.fact_with, Common.Holds, Common.IsHeld, Common.with_only, Keeping.AreKept, Keeping.AreReady};
+ghost use Rattle.sim_range.specs.{Common.fact_with, Common.IsHeld, Common.Land, Common.with_only, Keeping.AreKept, Keeping.AreReady};
 ghost use Rattle.std.specs.Prelude.{◌<◌, ◌≡◌, IfOk, IfSome, IsSome, IsTrue, length, OnOk, Some, vec_capacity, vec_len, ℕ};
 
 use crate::bucket::Bucket;
@@ -12,7 +12,7 @@ use crate::plan::Plan;
 use crate::sight::Sight;
 use crate::sights::{make_rooms, put, sights_of, turn_all};
 use crate::visions::{Visions, visions_of};
-use sim_base::{Land, OutOfMemory};
+use sim_base::OutOfMemory;
 use sim_fact_lists::Kept;
 use sim_system::Fact;
 use std::alloc::Global;
@@ -40,10 +40,10 @@ impl Sights {
     }
 
     // Makes room for what a note changes of what is seen, and finds it.
-    fn make_ready(
+    fn make_ready<'a>(
         &mut self,
-        kept: &Kept,
-        buckets: &[Bucket],
+        kept: &'a Kept,
+        buckets: &'a [Bucket],
         before: &Option<Fact>,
         after: &Option<Fact>,
     ) -> Result<(), OutOfMemory>
@@ -59,17 +59,13 @@ impl Sights {
             unreachable!()
         };
         let facts = kept.facts.as_slice();
-        let crowd = Crowd {
-            land,
-            facts,
-            buckets,
-        };
         let held = Held { land, facts };
         self.visions = self.visions.widened(after);
+        let crowd = Crowd { held, buckets };
         let plan = &mut self.plan;
         plan.find(&crowd, &self.visions, before, after)?;
         plan.find_own(&held, self.all.as_slice(), after)?;
-        make_rooms(&mut self.all, &held, self.plan.watchers.as_slice())?;
+        make_rooms(&mut self.all, facts, self.plan.watchers.as_slice())?;
         self.all.reserve(1)?;
         Ok(())
     }
@@ -92,8 +88,13 @@ impl Sights {
         };
         let facts = kept.facts.as_slice();
         let held = Held { land, facts };
-        let watchers = self.plan.watchers.as_slice();
-        turn_all(&mut self.all, &held, watchers, id, after);
+        turn_all(
+            &mut self.all,
+            &held,
+            self.plan.watchers.as_slice(),
+            id,
+            after,
+        );
         put(&mut self.all, &held, id, after, &mut self.plan.own);
     }
 }
@@ -101,13 +102,13 @@ impl Sights {
 // What all of these facts see, if it is kept.
 fn sights_for(alloc: Global, keeps: bool, crowd: &Crowd<'_>) -> Result<Sights, OutOfMemory>
     ensures keeps { IfOk result (λ sights. sights.keeps ≡ keeps) }
-    ensures kept { IfOk result (λ sights. IsTrue keeps → AreKept (Some crowd.now.land.now) crowd.now.facts.now sights) }
+    ensures kept { IfOk result (λ sights. IsTrue keeps → AreKept (Some crowd.now.held.land.now) crowd.now.held.facts.now sights) }
 {
     if !keeps {
         return Ok(Sights::new(alloc, keeps));
     }
     let all = sights_of(alloc, crowd)?;
-    let visions = visions_of(crowd.facts);
+    let visions = visions_of(crowd.held.facts);
     let plan = Plan::new(alloc);
     Ok(Sights {
         keeps,
@@ -125,23 +126,16 @@ pub struct Built {
 }
 
 /// Those of these facts: the sights, if they are kept.
-pub fn built_of(
-    alloc: Global,
-    keeps: bool,
-    land: &Land,
-    facts: &[Fact],
-) -> Result<Built, OutOfMemory>
-    requires holds { Holds land.now facts.now }
-    requires placed { ArePlaced facts.now }
+pub fn built_of(alloc: Global, keeps: bool, held: &Held<'_>) -> Result<Built, OutOfMemory>
+    requires { ArePlaced held.now.facts.now }
     ensures whole { IfOk result (λ built. length built.buckets.items ≡ 256) }
-    ensures buckets { IfOk result (λ built. AreBuckets facts.now built.buckets.items) }
+    ensures buckets { IfOk result (λ built. AreBuckets held.now.facts.now built.buckets.items) }
     ensures keeps { IfOk result (λ built. built.sights.keeps ≡ keeps) }
-    ensures kept { IfOk result (λ built. IsTrue keeps → AreKept (Some land.now) facts.now built.sights) }
+    ensures kept { IfOk result (λ built. IsTrue keeps → AreKept (Some held.now.land.now) held.now.facts.now built.sights) }
 {
-    let buckets = buckets_of(alloc, facts)?;
+    let buckets = buckets_of(alloc, held.facts)?;
     let crowd = Crowd {
-        land,
-        facts,
+        held: *held,
         buckets: buckets.as_slice(),
     };
     let sights = sights_for(alloc, keeps, &crowd)?;

@@ -2,11 +2,10 @@
 //! changes whether they see it.
 
 ghost use Rattle.std.specs.Prelude.{◌≡◌, ℕ, ◌<◌, map, length, IfSome, IfOk, OnOk, IsSome, IsTrue, slice_index_or, vec_len, vec_capacity};
-ghost use Rattle.sim_range.specs.Common.{fact_with, IsHeld, IsStrictlyIncreasing, with_only};
+ghost use Rattle.sim_range.specs.Common.{Ascend, fact_with, IsHeld, IsStrictlyIncreasing, with_only};
 ghost use Rattle.sim_range.specs.Sights.{AreChanging, AreSights, HasPlace, HaveRooms, ids_at, ids_of, sight as sight_among, turned};
 
 use crate::crowd::{Crowd, Held};
-use crate::seen::sight_of;
 use crate::sight::Sight;
 use crate::watchers::is_seen;
 use sim_base::OutOfMemory;
@@ -16,12 +15,11 @@ use std::alloc::Global;
 
 /// What each of these facts sees.
 pub fn sights_of(alloc: Global, crowd: &Crowd<'_>) -> Result<Vec<Sight>, OutOfMemory>
-    ensures { IfOk result (λ all. AreSights crowd.now.land.now crowd.now.facts.now all.items) }
+    ensures { IfOk result (λ all. AreSights crowd.now.held.land.now crowd.now.held.facts.now all.items) }
 {
     let mut all = Vec::new(alloc);
-    let facts = crowd.facts;
-    for fact in facts {
-        all.push(sight_of(alloc, crowd, fact)?)?;
+    for fact in crowd.held.facts {
+        all.push(crowd.sight_of(alloc, fact)?)?;
     }
     Ok(all)
 }
@@ -40,15 +38,15 @@ fn make_room_at(sights: &mut Vec<Sight>, at: usize) -> Result<(), OutOfMemory>
 /// Makes room for one more in the sights of these watchers.
 pub fn make_rooms(
     sights: &mut Vec<Sight>,
-    held: &Held<'_>,
+    facts: &[Fact],
     watchers: &[u32],
 ) -> Result<(), OutOfMemory>
-    requires { length sights.old.items ≡ length held.now.facts.now }
+    requires ascending { Ascend facts.now }
+    requires along { length sights.old.items ≡ length facts.now }
     ensures along { length sights.new.items ≡ length sights.old.items }
     ensures same { (k : ℕ) (d : Sight) → ids_at sights.new.items k d ≡ ids_at sights.old.items k d }
-    ensures room { OnOk result (HaveRooms held.now.facts.now watchers.now sights.new.items) }
+    ensures room { OnOk result (HaveRooms facts.now watchers.now sights.new.items) }
 {
-    let facts = held.facts;
     for watcher in watchers {
         if let Ok(at) = place_of(facts, *watcher) {
             make_room_at(sights, at)?;
@@ -87,10 +85,9 @@ pub fn turn_all(
         map (sight_among held.now.land.now (with_only id after.now held.now.facts.now)) held.now.facts.now }
     ensures room { vec_len sights.old < vec_capacity sights.old → vec_len sights.new < vec_capacity sights.new }
 {
-    let facts = held.facts;
     for watcher in watchers {
-        if let Ok(at) = place_of(facts, *watcher) {
-            turn_at(sights, at, id, is_seen(held.land, &facts[at], after));
+        if let Ok(at) = place_of(held.facts, *watcher) {
+            turn_at(sights, at, id, is_seen(held.land, &held.facts[at], after));
         }
     }
 }
@@ -104,8 +101,7 @@ pub fn put(sights: &mut Vec<Sight>, held: &Held<'_>, id: u32, part: &Option<Fact
     requires room { IsSome part.now → vec_len sights.old < vec_capacity sights.old }
     ensures { AreSights held.now.land.now (with_only id part.now held.now.facts.now) sights.new.items }
 {
-    let facts = held.facts;
-    match (place_of(facts, id), part) {
+    match (place_of(held.facts, id), part) {
         (Ok(at), Some(_)) => std::mem::swap(&mut sights[at], own),
         (Ok(at), None) => {
             sights.remove(at);

@@ -1,11 +1,10 @@
 //! Who is near a point: looked for in the buckets about it, or among all where these would be many.
 
-ghost use Rattle.std.specs.Prelude.{◌≡◌, ◌/◌, ◌<◌, ◌≤◌, ◌&&◌, ◌++◌, length, ℤ, pos, ◌-ℤ◌, ◌≤ℤ◌, IfOk, OnOk, IsTrue, unsigned_abs, All};
+ghost use Rattle.std.specs.Prelude.{◌≡◌, ◌/◌, ◌<◌, ◌≤◌, ◌&&◌, ◌++◌, ℤ, pos, ◌-ℤ◌, ◌≤ℤ◌, IfOk, OnOk, IsTrue, unsigned_abs, All};
 ghost use Rattle.sim_range.specs.Buckets.{bucket_at};
 ghost use Rattle.sim_range.specs.Common.{in_mask as in_mask_of, is_inside, is_near as is_near_of, IsHeld, IsLand, IsPlaced, size_of, within_among};
 
-use crate::bucket::Bucket;
-use crate::crowd::{Circle, Crowd};
+use crate::crowd::Crowd;
 use sim_base::{Fixed, Ids, Land, OutOfMemory, Point, square};
 use sim_system::Fact;
 use std::alloc::Global;
@@ -46,7 +45,15 @@ pub fn is_within(land: &Land, fact: &Fact, at: &Point, radius: Fixed, mask: u32)
     fact.health && in_mask(mask, fact.owner) && is_near(&fact.at, at, radius)
 }
 
-// Adds those of these facts that are near a point.
+/// A circle about a point, and the mask of the owners whose entities are looked for in it.
+#[derive(Clone, Copy)]
+pub struct Circle {
+    pub at: Point,
+    pub radius: Fixed,
+    pub mask: u32,
+}
+
+// Adds those of these facts that are looked for in a circle.
 fn push_near(
     ids: &mut Vec<u32>,
     land: &Land,
@@ -86,39 +93,38 @@ fn touches(number: usize, at: &Point, reach: u32) -> bool
     is_reached(number % 16, at.x, reach) && is_reached(number / 16, at.z, reach)
 }
 
-// Whether so many stand in the buckets about a point, a quarter of all, that it is quicker to go over all facts. Either
-// answer leads to the same ids.
-fn is_crowded(facts: &[Fact], buckets: &[Bucket], at: &Point, reach: u32) -> bool
-    requires { length buckets.now ≡ 256 }
-{
-    let mut count: usize = 0;
-    for (number, bucket) in buckets.iter().enumerate() {
-        if touches(number, at, reach) {
-            count = count.saturating_add(bucket.facts.len());
+impl Crowd<'_> {
+    // Whether so many stand in the buckets about a point, a quarter of all, that it is quicker to go over all facts. Either
+    // answer leads to the same ids.
+    fn is_crowded(&self, at: &Point, reach: u32) -> bool {
+        let mut count: usize = 0;
+        for (number, bucket) in self.buckets.iter().enumerate() {
+            if touches(number, at, reach) {
+                count = count.saturating_add(bucket.facts.len());
+            }
         }
+        count > self.held.facts.len() / 4
     }
-    count > facts.len() / 4
-}
 
-/// The entities with health that are asked for.
-pub fn within(alloc: Global, crowd: &Crowd<'_>, circle: &Circle) -> Result<Ids, OutOfMemory>
-    requires { IsTrue (is_inside (size_of crowd.now.land.now) circle.now.at) }
-    ensures { IfOk result (λ ids. ids ≡ within_among crowd.now.facts.now circle.now.at circle.now.radius circle.now.mask) }
-{
-    let land = crowd.land;
-    let facts = crowd.facts;
-    let buckets = crowd.buckets;
-    let reach = reach_of(circle.radius);
-    let mut ids = Vec::new(alloc);
-    if is_crowded(facts, buckets, &circle.at, reach) {
-        push_near(&mut ids, land, facts, circle)?;
-        return Ok(Ids::from_items(ids));
-    }
-    for (number, bucket) in buckets.iter().enumerate() {
-        if touches(number, &circle.at, reach) {
-            push_near(&mut ids, land, bucket.facts.as_slice(), circle)?;
+    /// The entities with health of the masked owners that are in a circle.
+    pub fn within(&self, alloc: Global, circle: &Circle) -> Result<Ids, OutOfMemory>
+        requires at { IsTrue (is_inside (size_of self.now.held.land.now) circle.now.at) }
+        ensures { IfOk result (λ ids. ids ≡ within_among self.now.held.facts.now circle.now.at circle.now.radius circle.now.mask) }
+    {
+        let reach = reach_of(circle.radius);
+        let land = self.held.land;
+        let buckets = self.buckets;
+        let mut ids = Vec::new(alloc);
+        if self.is_crowded(&circle.at, reach) {
+            push_near(&mut ids, land, self.held.facts, circle)?;
+            return Ok(Ids::from_items(ids));
         }
+        for (number, bucket) in buckets.iter().enumerate() {
+            if touches(number, &circle.at, reach) {
+                push_near(&mut ids, land, bucket.facts.as_slice(), circle)?;
+            }
+        }
+        ids.sort_unstable();
+        Ok(Ids::from_items(ids))
     }
-    ids.sort_unstable();
-    Ok(Ids::from_items(ids))
 }

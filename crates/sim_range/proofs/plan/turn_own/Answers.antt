@@ -22,8 +22,9 @@ loop-id-preserved c =
     elim c.match-place_of.branch [
       | in-Ok+in_ok-make_room w ↦
           ap ids_of w.own-is
-          ∙ next_mixed g h facts c.args.held.now.holds.held.ascending ids j (grind arith) own c.loop-id.invariant w.in-Ok.at w.index-facts-at.result
-          w.is_seen_by.result _ w.in-Ok.ensures w.index-facts-at.is w.is_seen_by.ensures
+          ∙ next_mixed g h facts c.args.held.now.holds.held.ascending ids j (grind arith) own c.loop-id.invariant w.in-Ok.at w.index-held-at.result
+          w.is_seen_by.result _ w.in-Ok.ensures w.index-held-at.is
+          (w.is_seen_by.ensures ∙ ap (sees c.args.held.now.land.now (Some c.args.watcher.now)) (sym w.index-held-at.is))
           (w.turn.ensures ∙ ap (turned w.is_seen_by.result (get_or ids j 0)) w.in_ok-make_room.ensures.same)
       | in_default w ↦ ap ids_of w.own-is ∙ same_mixed g h facts c.args.held.now.holds.held.ascending ids j (grind arith) own c.loop-id.invariant
           w.in_default.field-0 w.in_default.ensures

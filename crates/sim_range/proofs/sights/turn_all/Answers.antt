@@ -1,6 +1,7 @@
 -- One sight more is changed, or nobody has that id.
-use Rattle.sim_range.proofs.{Common.subst, Common.sym, Common.take_all, Common.◌∙◌, sights.turn_all.Goals.in-Ok, sights.turn_all.Goals.in_default}
-use Rattle.sim_range.proofs.Common.{◌<◌, List, length, get_or, vec_items, vec_len, vec_capacity, refl, ap, arith, fact_with, ids_at, ids_of, Sight, sight}
+use Rattle.sim_range.proofs.{Common.is_seen, Common.subst, Common.sym, Common.take_all, Common.◌∙◌}
+use Rattle.sim_range.proofs.sights.turn_all.Goals.{in-Ok, in_default}
+use Rattle.sim_range.proofs.Common.{◌<◌, List, length, get_or, vec_items, vec_len, vec_capacity, refl, ap, arith, Fact, fact_with, ids_at, ids_of, Sight, sight}
 use Rattle.sim_range.proofs.Watching.{all_turned, long_as, next_room, next_seen, read_map, ready_room, ready_up, same_room, same_seen}
 use Rattle.sim_range.proofs.sights.turn_all.Goals as goal
 
@@ -18,14 +19,15 @@ turn_at-requires-clause-ascending c =
     ready_up c.args.held.now.land.now c.args.id c.args.after.now c.args.held.now.facts.now c.args.held.now.holds.held.ascending c.requires.named
     c.args.watchers.now
     c.loop-watcher.watcher-index (grind arith) c.loop-watcher.sights.items c.loop-watcher.invariant.seen c.loop-watcher.invariant.room
-    c.in-Ok.at c.in-Ok.ensures c.index-facts-at.result c.index-facts-at.is
+    c.in-Ok.at c.in-Ok.ensures c.index-held-at.result c.index-held-at.is
 
 pub turn_at-requires-clause-room : goal.turn_at-requires-clause-room
 turn_at-requires-clause-room c =
     ready_room c.args.held.now.land.now c.args.id c.args.after.now c.args.held.now.facts.now c.args.held.now.holds.held.ascending c.requires.named
     c.args.watchers.now
     c.loop-watcher.watcher-index (grind arith) c.loop-watcher.sights.items c.loop-watcher.invariant.seen c.loop-watcher.invariant.room
-    c.in-Ok.at c.in-Ok.ensures c.index-facts-at.result c.index-facts-at.is c.is_seen.result c.is_seen.ensures
+    c.in-Ok.at c.in-Ok.ensures c.index-held-at.result c.index-held-at.is c.is_seen.result
+    (c.is_seen.ensures ∙ ap (λ (f : Fact). is_seen c.args.held.now.land.now f c.args.after.now) (sym c.index-held-at.is))
 
 pub loop-watcher-preserved : goal.loop-watcher-preserved
 loop-watcher-preserved c =
@@ -43,11 +45,11 @@ loop-watcher-preserved c =
             along = ap (λ (ss : List Sight). length ss) is ∙ w.turn_at.ensures.along ∙ kept.along;
             seen = λ i f d lt. ap (λ (ss : List Sight). ids_at ss i d) is
                 ∙ next_seen land c.args.id c.args.after.now facts c.args.held.now.holds.held.ascending c.requires.named watchers j (grind arith) old kept.seen
-                kept.room w.in-Ok.at w.in-Ok.ensures w.index-facts-at.result w.index-facts-at.is new w.turn_at.ensures.others w.is_seen.result
-                w.is_seen.ensures w.turn_at.ensures.there i f d lt;
+                kept.room w.in-Ok.at w.in-Ok.ensures w.index-held-at.result w.index-held-at.is new w.turn_at.ensures.others w.is_seen.result
+                (w.is_seen.ensures ∙ ap (λ (g : Fact). is_seen land g c.args.after.now) (sym w.index-held-at.is)) w.turn_at.ensures.there i f d lt;
             room = λ i f d lt among none. subst (λ (ss : List Sight). vec_len (get_or ss i d).ids < vec_capacity (get_or ss i d).ids) (sym is)
                 (next_room land c.args.id c.args.after.now facts c.args.held.now.holds.held.ascending c.requires.named watchers j (grind arith) old kept.seen
-                kept.room w.in-Ok.at w.in-Ok.ensures w.index-facts-at.result w.index-facts-at.is new w.turn_at.ensures.others i f d lt among
+                kept.room w.in-Ok.at w.in-Ok.ensures w.index-held-at.result w.index-held-at.is new w.turn_at.ensures.others i f d lt among
                 none);
             more = λ room. subst (λ (v : _). vec_len v < vec_capacity v) (sym w.sights-is) (w.turn_at.ensures.room (kept.more room));
           })

@@ -9,18 +9,18 @@ use Rattle.sim_range.proofs.plan.Plan.find.Goals as goal
 
 pub loop-number-init : goal.loop-number-init
 loop-number-init c =
-    let land = c.args.crowd.now.land.now in
+    let land = c.args.crowd.now.held.land.now in
     let before = c.args.before.now in
     let after = c.args.after.now in
-    let facts = c.args.crowd.now.facts.now in
+    let facts = c.args.crowd.now.held.facts.now in
     let area = c.area_of-area.ensures in
     let first = c.area_of-area.result.rows.first * 16 in
     let old_out = λ (k : ℕ) (low : 0 ≤ k) (lt : k < first). area.before k (λ rows columns. absurd (omega (arith, rows.0, lt))) in
     let new_out = λ (k : ℕ) (low : 0 ≤ k) (lt : k < first). area.after k (λ rows columns. absurd (omega (arith, rows.0, lt))) in
     record {
       watchers = subst (λ (xs : List ℕ). IsPermutation xs c.clear.new.self.items)
-          (sym (pass_watchers land c.args.visions.now.far before after facts c.args.crowd.now.sorted.placed c.requires.far 0 first
-          (omega arith) old_out new_out))
+          (sym (pass_watchers land c.args.visions.now.far before after facts c.args.crowd.now.sorted.placed c.requires.far 0 first (omega arith) old_out
+          new_out))
           (start_chosen (λ (f : Fact). differ (is_seen land f before) (is_seen land f after)) facts c.clear.new.self.items c.clear.ensures.items);
       seen = subst (λ (xs : List ℕ). IsPermutation xs c.clear-2.new.self.items)
           (sym (pass_view land c.args.visions.now.far before after facts c.args.crowd.now.sorted.placed c.requires.far 0 first (omega arith) old_out new_out
@@ -30,25 +30,25 @@ loop-number-init c =
 
 pub push-requires-clause-held : goal.push-requires-clause-held
 push-requires-clause-held c =
-    bucket_held c.args.crowd.now.land.now c.args.crowd.now.facts.now c.loop-number.number c.args.crowd.now.buckets.now c.index-buckets-number.result _
+    bucket_held c.args.crowd.now.held.land.now c.args.crowd.now.held.facts.now c.loop-number.number c.args.crowd.now.buckets.now c.index-crowd-number.result _
     c.args.crowd.now.sorted.holds c.args.crowd.now.sorted.bucketed
-    (grind arith) c.index-buckets-number.is (c.as_slice.ensures.value ∙ ap (λ (b : Bucket). b.facts.items) (sym c.index-buckets-number.is))
+    (grind arith) c.index-crowd-number.is (c.as_slice-facts.ensures.value ∙ ap (λ (b : Bucket). b.facts.items) (sym c.index-crowd-number.is))
 
 pub loop-number-preserved : goal.loop-number-preserved
 loop-number-preserved c =
-    let land = c.args.crowd.now.land.now in
+    let land = c.args.crowd.now.held.land.now in
     let before = c.args.before.now in
     let after = c.args.after.now in
-    let facts = c.args.crowd.now.facts.now in
+    let facts = c.args.crowd.now.held.facts.now in
     let k = c.loop-number.number in
     let kept = c.loop-number.invariant in
     let changes = λ (f : Fact). differ (is_seen land f before) (is_seen land f after) in
     let views = λ (f : Fact). differ (sees land before f) (sees land after f) in
     elim c.if-is_concerned.branch [
       | then-is_concerned+in_ok-push w ↦
-          (let here = lent_held facts k c.args.crowd.now.buckets.now w.index-buckets-number.result _ c.args.crowd.now.sorted.bucketed
-          (grind arith) w.index-buckets-number.is
-          (w.as_slice.ensures.value ∙ ap (λ (b : Bucket). b.facts.items) (sym w.index-buckets-number.is)) in
+          (let here = lent_held facts k c.args.crowd.now.buckets.now w.index-crowd-number.result _ c.args.crowd.now.sorted.bucketed (grind arith)
+          w.index-crowd-number.is
+          (w.as_slice-facts.ensures.value ∙ ap (λ (b : Bucket). b.facts.items) (sym w.index-crowd-number.is)) in
           record {
             watchers = more_chosen changes k facts c.loop-number.self.watchers.items _ kept.watchers
                 (ap (λ (p : Plan). p.watchers.items) w.self-is ∙ w.in_ok-push.ensures.watchers ∙
@@ -82,18 +82,18 @@ loop-number-preserved c =
                   before after inner));
               seen = more_chosen views k facts c.loop-number.self.seen.items _ kept.seen
                   (ap (λ (p : Plan). p.seen.items) w.self-is ∙ nothing_more c.loop-number.self.seen.items (turned_seen land before after (held_in k facts))
-                  (none_in_sight land c.args.visions.now.near k facts c.args.crowd.now.sorted.placed c.requires.near before after
-                  c.requires.before_near inner));
+                  (none_in_sight land c.args.visions.now.near k facts c.args.crowd.now.sorted.placed c.requires.near before after c.requires.before_near
+                  inner));
             }
       ]
     ]
 
 pub returns-clause-watchers : goal.returns-clause-watchers
 returns-clause-watchers c =
-    let land = c.args.crowd.now.land.now in
+    let land = c.args.crowd.now.held.land.now in
     let before = c.args.before.now in
     let after = c.args.after.now in
-    let facts = c.args.crowd.now.facts.now in
+    let facts = c.args.crowd.now.held.facts.now in
     let area = c.area_of-area.ensures in
     let end = c.area_of-area.result.rows.end * 16 in
     let ids = c.loop-number.self.watchers.items in
@@ -102,8 +102,8 @@ returns-clause-watchers c =
     let at_end : c.loop-number.number ≡ end = grind arith in
     let here = subst (λ (n : ℕ). IsPermutation (turned_watchers land before after (below_bucket n facts)) ids) at_end c.loop-number.invariant.watchers in
     let further = subst (λ (xs : List ℕ). IsPermutation xs ids)
-    (sym (pass_watchers land c.args.visions.now.far before after facts c.args.crowd.now.sorted.placed c.requires.far end 256 (omega
-    (arith, area.end)) old_out new_out))
+    (sym (pass_watchers land c.args.visions.now.far before after facts c.args.crowd.now.sorted.placed c.requires.far end 256 (omega (arith, area.end)) old_out
+    new_out))
     here in
     let whole = subst (λ (fs : List Fact). IsPermutation (turned_watchers land before after fs) ids)
     (all_below (λ (f : Fact). differ (is_seen land f before) (is_seen land f after)) facts c.args.crowd.now.sorted.placed) further in
@@ -112,10 +112,10 @@ returns-clause-watchers c =
 
 pub returns-clause-seen : goal.returns-clause-seen
 returns-clause-seen c =
-    let land = c.args.crowd.now.land.now in
+    let land = c.args.crowd.now.held.land.now in
     let before = c.args.before.now in
     let after = c.args.after.now in
-    let facts = c.args.crowd.now.facts.now in
+    let facts = c.args.crowd.now.held.facts.now in
     let area = c.area_of-area.ensures in
     let end = c.area_of-area.result.rows.end * 16 in
     let ids = c.loop-number.self.seen.items in
@@ -124,8 +124,8 @@ returns-clause-seen c =
     let at_end : c.loop-number.number ≡ end = grind arith in
     let here = subst (λ (n : ℕ). IsPermutation (turned_seen land before after (below_bucket n facts)) ids) at_end c.loop-number.invariant.seen in
     let further = subst (λ (xs : List ℕ). IsPermutation xs ids)
-    (sym (pass_view land c.args.visions.now.far before after facts c.args.crowd.now.sorted.placed c.requires.far end 256 (omega
-    (arith, area.end)) old_out new_out
+    (sym (pass_view land c.args.visions.now.far before after facts c.args.crowd.now.sorted.placed c.requires.far end 256 (omega (arith, area.end)) old_out
+    new_out
     c.requires.before_far c.requires.after_far)) here in
     let whole = subst (λ (fs : List Fact). IsPermutation (turned_seen land before after fs) ids)
     (all_below (λ (f : Fact). differ (sees land before f) (sees land after f)) facts c.args.crowd.now.sorted.placed) further in

@@ -43,8 +43,8 @@ invariant_of-self c =
     let many = s.whole built in
     record {
       placed = subst ArePlaced (sym e.facts) s.placed;
-      bucketed = λ k d lt. e.buckets.each k d (omega (arith, lt, e.buckets.whole)) ∙ s.bucketed k d (omega (arith, lt, e.buckets.whole, many)) ∙ ap
-          (held_in k) (sym e.facts);
+      bucketed = λ k d lt. e.buckets.each k d (omega (arith, lt, e.buckets.whole)) ∙ s.bucketed k d (omega (arith, lt, e.buckets.whole, many)) ∙ ap (held_in
+          k) (sym e.facts);
       whole = λ some. e.buckets.whole;
       bare = λ none. still_built s.kept.land c.make_ready.new.kept.land built e.land none;
       seen = λ keeps. kept_along s.kept.land c.make_ready.new.kept.land s.kept.facts.items c.make_ready.new.kept.facts.items c.make_ready.new.sights e.land

@@ -1,23 +1,25 @@
 -- The facts are held on the land, and the ids of the sights stay as they were.
 use Rattle.sim_range.proofs.{Keeping.further, Keeping.nearer, Lending.same_sights, Own.in_view, Watching.long_as}
-use Rattle.sim_range.proofs.Common.{List, length, refl, ap, Fact, Holds, ids_at, ids_of, Sight, sight, subst, sym, ◌∙◌}
+use Rattle.sim_range.proofs.Common.{List, length, refl, ap, Ascend, Fact, Holds, ids_at, ids_of, Sight, sight, subst, sym, ◌∙◌}
 use Rattle.sim_range.proofs.ready.Sights.make_ready.Goals as goal
 
 pub invariant_of-crowd : goal.invariant_of-crowd
-invariant_of-crowd c = record {
-  sorted = rw c.as_slice-facts.ensures.value (record {
+invariant_of-crowd c = rw c.as_slice-facts.ensures.value (record {
+  sorted = record {
     holds = c.args.kept.now.held c.in-Some.land c.in-Some.is;
     placed = c.requires.placed;
     bucketed = c.requires.bucketed;
     whole = c.requires.whole;
-  });
-}
-
-pub invariant_of-held : goal.invariant_of-held
-invariant_of-held c = record { holds = subst (Holds c.in-Some.land) (sym c.as_slice-facts.ensures.value) (c.args.kept.now.held c.in-Some.land c.in-Some.is) }
+  };
+})
 
 pub find-requires-clause-parts : goal.find-requires-clause-parts
 find-requires-clause-parts c = c.requires.parts c.in-Some.land c.in-Some.is
+
+pub invariant_of-held : goal.invariant_of-held
+invariant_of-held c = record {
+  holds = subst (Holds c.in-Some.land) (sym c.as_slice-facts.ensures.value) (c.args.kept.now.held c.in-Some.land c.in-Some.is);
+}
 
 pub find_own-requires-clause-after : goal.find_own-requires-clause-after
 find_own-requires-clause-after c = (c.requires.parts c.in-Some.land c.in-Some.is).to
@@ -27,8 +29,11 @@ find_own-requires-clause-seen c =
     in_view c.in-Some.land c.args.kept.now.facts.items c.as_slice-facts.result.now c.args.before.now c.args.after.now c.find.new.self.seen.items
     c.as_slice-facts.ensures.value c.requires.found c.in_ok-find.ensures.seen
 
-pub make_rooms-requires : goal.make_rooms-requires
-make_rooms-requires c =
+pub make_rooms-requires-clause-ascending : goal.make_rooms-requires-clause-ascending
+make_rooms-requires-clause-ascending c = subst Ascend (sym c.as_slice-facts.ensures.value) (c.args.kept.now.held c.in-Some.land c.in-Some.is).held.ascending
+
+pub make_rooms-requires-clause-along : goal.make_rooms-requires-clause-along
+make_rooms-requires-clause-along c =
     long_as ids_of (sight c.in-Some.land c.args.kept.now.facts.items) c.args.self.now.all.items c.args.kept.now.facts.items
     ((c.requires.kept c.if-not-self.false).all c.in-Some.land c.in-Some.is)
     ∙ ap (λ (fs : List Fact). length fs) (sym c.as_slice-facts.ensures.value)

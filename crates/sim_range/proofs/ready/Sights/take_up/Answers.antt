@@ -4,7 +4,9 @@ use Rattle.sim_range.proofs.Common.{List, AreChanging, Fact, fact_with, Holds, S
 use Rattle.sim_range.proofs.ready.Sights.take_up.Goals as goal
 
 pub invariant_of-held : goal.invariant_of-held
-invariant_of-held c = record { holds = subst (Holds c.in-Some.land) (sym c.as_slice-facts.ensures.value) (c.args.kept.now.held c.in-Some.land c.in-Some.is) }
+invariant_of-held c = record {
+  holds = subst (Holds c.in-Some.land) (sym c.as_slice-facts.ensures.value) (c.args.kept.now.held c.in-Some.land c.in-Some.is);
+}
 
 pub put-requires-clause-own : goal.put-requires-clause-own
 put-requires-clause-own c =
@@ -16,7 +18,7 @@ pub put-requires-clause-sights : goal.put-requires-clause-sights
 put-requires-clause-sights c =
     c.turn_all.ensures.changed
     (subst (AreChanging c.in-Some.land c.as_slice-facts.result.now (fact_with c.as_slice-facts.result.now c.args.id) c.args.after.now)
-    (sym c.as_slice-watchers.ensures.value)
+    (sym c.as_slice.ensures.value)
     (subst (λ (fs : List Fact). AreChanging c.in-Some.land fs (fact_with fs c.args.id) c.args.after.now c.args.self.now.plan.watchers.items)
     (sym c.as_slice-facts.ensures.value) ((c.requires.ready c.if-not-self.false).changing c.in-Some.land c.in-Some.is)))
 

@@ -2,8 +2,8 @@
 use Rattle.sim_range.proofs.{Common.IsStrictlyIncreasing, Common.rising, Common.subst, Common.sym, Common.◌∙◌, Seeing.chosen_ups, Turning.increasing}
 use Rattle.sim_range.proofs.Nearing.{near_by}
 
-pub turn-requires-clause-ascending : Rattle.sim_range.proofs.seen.sight_of.Goals.turn-requires-clause-ascending
+pub turn-requires-clause-ascending : Rattle.sim_range.proofs.crowd.Crowd.sight_of.Goals.turn-requires-clause-ascending
 turn-requires-clause-ascending c =
     subst IsStrictlyIncreasing (sym (c.into_items.ensures ∙ c.in_ok-near.ensures))
-    (increasing _ (chosen_ups (near_by c.args.watcher.now.at c.in-Some.vision c.mask_of.result) c.args.crowd.now.facts.now
-    (rising c.args.crowd.now.facts.now c.args.crowd.now.sorted.holds.held.ascending)))
+    (increasing _ (chosen_ups (near_by c.args.watcher.now.at c.in-Some.vision c.mask_of.result) c.args.self.now.held.facts.now
+    (rising c.args.self.now.held.facts.now c.args.self.now.sorted.holds.held.ascending)))

@@ -1,4 +1,0 @@
-use Rattle.sim_range.proofs.Common.{IsPermutation, below_bucket, within_among}
-
-abbrev pub invariant-loop-number : Rattle.sim_range.proofs.within.within.Given.invariant-loop-number
-invariant-loop-number l = IsPermutation (within_among (below_bucket l.number l.crowd.facts.now) l.circle.at l.circle.radius l.circle.mask) l.ids.items
