@@ -7,19 +7,18 @@ use sim_base::{OutOfMemory, Setup, State, push_decimal};
 use sim_bytes::push_hex;
 use sim_codec::digest;
 
-/// Appends the line of a trial that was made of these numbers and ended in this state. After an error a part of it may
-/// stand behind the old text.
+/// Appends the line of a trial that was made of these numbers, its seed, soldiers and turns, and ended in this state. After an
+/// error a part of it may stand behind the old text.
 pub fn push_trial(
-    seed: u32,
-    units: u32,
-    turns: u32,
+    numbers: (u32, u32, u32),
     setup: &Setup,
     state: &State,
     out: &mut String,
 ) -> Result<(), OutOfMemory>
     requires { IsValid setup.now state.now }
-    ensures { OnOk result (string_bytes out.new ≡ string_bytes out.old ++ trial_line seed units turns setup.now state.now) }
+    ensures { OnOk result (string_bytes out.new ≡ string_bytes out.old ++ trial_line numbers.0 numbers.1 numbers.2 setup.now state.now) }
 {
+    let (seed, units, turns) = numbers;
     out.push_str("trial")?;
     push_number(u64::from(seed), out)?;
     push_number(u64::from(units), out)?;

@@ -57,19 +57,26 @@ fn loaded(alloc: Global, client: &Client<'_>, number: u8) -> Result<Events, OutO
     )
 }
 
+// What a message is to its client: why it is refused, where it is, and whether it is a state.
+#[derive(Clone, Copy)]
+struct Message {
+    refusal: Option<u8>,
+    is_state: bool,
+}
+
 // What is printed of a message that a client heard, by what it did.
 fn heard(
     alloc: Global,
     client: &Client<'_>,
     number: u8,
-    refusal: Option<u8>,
-    is_state: bool,
+    message: Message,
     did: &Did,
 ) -> Result<Events, OutOfMemory>
     requires { IsSound client.now ⟦<dyn System as System>⟧ }
-    ensures { IfOk result (λ events. events ≡ heard_events (setup_in client.now) number (life client.now) refusal is_state (has_happened did.now)) }
+    ensures { IfOk result
+        (λ events. events ≡ heard_events (setup_in client.now) number (life client.now) message.refusal message.is_state (has_happened did.now)) }
 {
-    if let Some(code) = refusal {
+    if let Some(code) = message.refusal {
         return one(
             alloc,
             Event::Refused {
@@ -79,7 +86,7 @@ fn heard(
         );
     }
     match did {
-        Did::Done { .. } if is_state => loaded(alloc, client, number),
+        Did::Done { .. } if message.is_state => loaded(alloc, client, number),
         _ => Ok(Items::new(alloc)),
     }
 }
@@ -101,7 +108,8 @@ pub fn down(
     let refusal = refusal_of(&down);
     let is_state = is_state(&down);
     let did = client.hear(down)?;
-    let events = heard(alloc, client, number, refusal, is_state, &did)?;
+    let message = Message { refusal, is_state };
+    let events = heard(alloc, client, number, message, &did)?;
     let ups = ups_of(alloc, did);
     exchange.send(number, ups.as_slice())?;
     Ok(events)

@@ -59,9 +59,8 @@ fn trial_text(
     ensures text { IfOk result (λ text. IfOk state (λ state. string_bytes text ≡ trial_line numbers.0 numbers.1 numbers.2 setup.now state)) }
     ensures refused { OnErr state (IsErr result) }
 {
-    let (seed, units, turns) = numbers;
     let state = state?;
     let mut text = String::new(alloc);
-    push_trial(seed, units, turns, setup, &state, &mut text)?;
+    push_trial(numbers, setup, &state, &mut text)?;
     Ok(text)
 }
