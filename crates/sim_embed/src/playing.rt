@@ -6,8 +6,9 @@ ghost use Rattle.{sim_laws.specs.CommandLaws.IsOrderOf, sim_system.specs.Meaning
 ghost use Rattle.std.specs.Prelude.{◌≡◌, ◌<◌, IfOk, IfErr, All};
 ghost use Rattle.sim_embed.specs.{Answers.IsStored, Answers.StoresFirst, Answers.StoresTurn, Causes.IsNoMatch, Causes.IsNoTurn};
 
+use crate::planning::planned;
 use crate::reading::{commands_of, match_of, state_of};
-use crate::{Refused, Stored, planned};
+use crate::{Refused, Stored};
 use sim_base::{OutOfMemory, PlayerCommand, Setup, State};
 use sim_board::Board;
 use sim_census::Census;
