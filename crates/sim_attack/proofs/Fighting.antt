@@ -1,12 +1,12 @@
 -- The loop over the rows that fight.
-use Rattle.{sim_attack.specs.Fights.AreTaken, sim_attack.specs.Fights.fought_first, sim_attack.specs.Fights.fought_on, std.specs.Prelude.◌==◌}
-use Rattle.std.proofs.Common.{Option, refl, ap, append_assoc, arith, subst, sym, ◌∙◌}
-use Rattle.std.proofs.Common.{◌≡◌, ℕ, ◌+◌, ◌-◌, ◌<◌, ◌≤◌, Bool, true, false, cond, List, [], ◌∷◌, ◌++◌, length, get_or, take, replicate, Some, None, fold}
-use Rattle.std.proofs.lemmas.List.{get_or-replicate, get_or_default, length-replicate, take_all, take_more, Sums.fold-append}
-use Rattle.sim_base.specs.{Filters.is_near, Rows.arms_of, Rows.row_of, declared.setup.Setup.Setup}
-use Rattle.sim_base.specs.Hit.{fights, Hit, Hitting, hitting, rests, strikes, strikes_near, taken_from, with_cooldown}
-use Rattle.sim_base.specs.declared.{change.Change.Change, change.Change.TheVariants.Word, state.Aim.Aim, state.Row.Row, state.State.State, template.Arms.Arms}
-use Rattle.sim_plans.specs.Plans.{hurt_changes_by, hurt_changes_of}
+use Rattle.sim_base.specs.declared.{change.Change.Change, change.Change.TheVariants.Word, setup.Setup.Setup, state.Aim.Aim, state.Row.Row, state.State.State}
+use Rattle.sim_base.specs.{Commands.is_near, Rows.arms_of, Rows.row_of, Turn.Hit, Turn.Hitting, Turn.fights, Turn.hitting, Turn.rests, Turn.strikes}
+use Rattle.sim_base.specs.{Turn.taken_from, Turn.with_cooldown, declared.template.Arms.Arms}
+use Rattle.std.proofs.Common.{[], ap, append_assoc, arith, Bool, cond, false, flat_map, fold, get_or, length, List, None, Option, refl, replicate, Some, subst}
+use Rattle.std.proofs.Common.{sym, take, true, ℕ, ◌++◌, ◌+◌, ◌-◌, ◌<◌, ◌∙◌, ◌∷◌, ◌≡◌, ◌≤◌}
+use Rattle.std.proofs.lemmas.List.{Concat.flat_map-append, Sums.fold-append, append-nil, get_or-replicate, get_or_default, length-replicate, take_all}
+use Rattle.{sim_attack.specs.Fights.AreTaken, sim_attack.specs.Fights.fought_first, sim_attack.specs.Fights.fought_on, sim_base.specs.Turn.strikes_near}
+use Rattle.{sim_plans.specs.Plans.hurt_changes_by, sim_plans.specs.Plans.hurt_changes_of, std.proofs.lemmas.List.take_more, std.specs.Prelude.◌==◌}
 
 -- the word and the hits after a fight do not depend on the rows so far
 record IsSameFight (a b : Hitting) : Type 0 where
@@ -94,3 +94,12 @@ hurt_at rows hits damage at row x lt is x_is taken =
 
 pub behind_word : (front : List Change) (word : ℕ) (back more : List Change) → (front ++ Word word ∷ back) ++ more ≡ front ++ Word word ∷ (back ++ more)
 behind_word front word back more = append_assoc front (Word word ∷ back) more
+
+-- A step of a loop over rows that adds the changes of one row.
+
+-- what was listed for the first rows, and what is listed for the next one
+pub listed_more : {X Y : Type 0} (f : X → List Y) (xs : List X) (i : ℕ) (x : X) (old new : List Y) → i < length xs → x ≡ get_or xs i x
+    → old ≡ flat_map f (take i xs) → new ≡ old ++ f x → new ≡ flat_map f (take (i + 1) xs)
+listed_more f xs i x old new lt is before after =
+    after ∙ ap (λ (ys : List _). ys ++ f x) before ∙ ap (λ (ys : List _). flat_map f (take i xs) ++ ys) (sym (append-nil (f x))) ∙
+    sym (flat_map-append f (take i xs) (x ∷ [])) ∙ ap (λ (y : _). flat_map f (take i xs ++ y ∷ [])) is ∙ ap (flat_map f) (sym (take_more xs i x lt))

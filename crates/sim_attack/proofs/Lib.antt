@@ -1,6 +1,4 @@
-mod Loops
-mod Sums
 mod Fighting
+mod Sums
 mod Nearer
 mod Sharing
-mod Taking

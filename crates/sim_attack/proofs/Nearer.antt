@@ -1,9 +1,9 @@
 -- The loop that finds the nearest.
-use Rattle.std.proofs.{Common.subst, Common.sym, Common.◌∙◌, lemmas.List.take_all, lemmas.List.take_more, lemmas.List.Sums.fold-append}
-use Rattle.std.proofs.Common.{◌≡◌, ℕ, ◌+◌, ◌<◌, Bool, true, false, cond, List, [], ◌∷◌, ◌++◌, length, get_or, take, Some, None, fold, Option, refl, ap, arith}
-use Rattle.std.specs.Prelude.{unwrap_or, option_map}
-use Rattle.sim_attack.specs.{Nearest.better_of, Nearest.nearest_of, Nearest.StandsFor, declared.aim.Candidate.Candidate}
-use Rattle.sim_base.specs.{Aim.square_to, Least.is_before, Least.lesser_of, declared.state.Row.Row, declared.state.State.State}
+use Rattle.sim_attack.specs.{Finds.StandsFor, Finds.better_of, Finds.nearest_of, declared.aim.Candidate.Candidate}
+use Rattle.sim_base.specs.{Turn.square_to, Ways.is_before, Ways.lesser_of, declared.state.Row.Row, declared.state.State.State}
+use Rattle.std.proofs.Common.{[], ap, arith, Bool, cond, false, fold, get_or, length, List, None, Option, refl, Some, subst, sym, take, true, ℕ, ◌++◌, ◌+◌, ◌<◌}
+use Rattle.std.proofs.{Common.◌∙◌, Common.◌∷◌, Common.◌≡◌, lemmas.List.Sums.fold-append, lemmas.List.take_all, lemmas.List.take_more}
+use Rattle.std.specs.Prelude.{option_map, unwrap_or}
 
 module _ (state : State) (row : Row) where
   abbrev key : ℕ → List ℕ

@@ -1,14 +1,16 @@
 -- Rows of one owner that stand at one point and see equally far have the same nearest enemy.
-use Rattle.std.proofs.{Common.inr, Common.int_eq, Common.subst, Common.sym, Common.◌∙◌, Math.ListN.get_or-eq_default}
-use Rattle.std.proofs.Common.{◌≡◌, ℕ, ◌<◌, Bool, true, false, cond, not, List, [], ◌∷◌, get_or, ℤ, nat_lt, Some, None, filter, Option, refl, ap, arith, inl}
-use Rattle.std.proofs.lemmas.{Bool.and_parts, Bool.eqb-true, Bool.ne_eqb, List.Elements.All-get_or, List.Elements.All-replicate}
-use Rattle.std.specs.Prelude.{◌&&◌, length, replicate, is_some, IfSome, ◌==◌, unwrap_or, option_map}
-use Rattle.{sim_attack.specs.declared.finds.Find.Find, sim_attack.specs.Nearest.nearest_of, sim_plans.proofs.Suiting.same_point-true}
-use Rattle.sim_attack.specs.Finds.{AreFound, filled, find_places, is_shared, nearest_from, place_for, shared}
-use Rattle.sim_base.specs.{Filters.is_near, Filters.seen, Filters.within, Move.same_point, Rows.enemies_of, Rows.id_of, Rows.in_mask, Rows.row_of}
-use Rattle.sim_base.specs.{Least.least_of, Limits.IsSetup, Places.square, Validity.IsKnownRow, Validity.IsLooselyValid}
-use Rattle.sim_base.specs.declared.{place.Point.Point, setup.Setup.Setup, state.Row.Row, state.State.State, template.Arms.Arms}
-use Rattle.sim_laws.proofs.{Members.Has, Members.Has-of_map, Rows.apart, Rows.found_row, Rows.Has-of_filter, Rows.known_row, Rows.same_row}
+use Rattle.sim_attack.specs.Finds.{AreFound, filled, find_places, is_shared, nearest_from, nearest_of, place_for, shared}
+use Rattle.sim_base.specs.{Commands.is_near, Commands.seen, Commands.within, Limits.IsKnownRow, Limits.IsLooselyValid, Limits.IsSetup, Places.square}
+use Rattle.sim_base.specs.{Rows.enemies_of, Rows.id_of, Rows.in_mask, Rows.is_holding, Rows.row_of, Turn.may_take, Turn.same_point, Turn.square_to}
+use Rattle.sim_base.specs.{Turn.target_for, Ways.least_of, declared.place.Point.Point, declared.setup.Setup.Setup, declared.state.Row.Row}
+use Rattle.sim_laws.proofs.Validity.{Has-of_filter, apart, found_row, known_row, same_row}
+use Rattle.sim_laws.proofs.{Keys.first_of_not_before, Neighbours.Has, Neighbours.Has-of_map, Removing.IsDownward, Removing.least_of-filter}
+use Rattle.std.proofs.Common.{[], ap, arith, Bool, cond, false, filter, get_or, inl, inr, int_eq, List, nat_lt, None, not, Option, refl, Some, subst, sym, true}
+use Rattle.std.proofs.lemmas.{Bool.and_parts, Bool.eqb-true, Bool.ne_eqb, List.Elements.All-get_or, List.Elements.All-replicate, Map.Entries.option_filter}
+use Rattle.std.proofs.{Common.ℕ, Common.ℤ, Common.◌*◌, Common.◌<◌, Common.◌∙◌, Common.◌∷◌, Common.◌≡◌, Common.◌≤◌, Math.ListN.get_or-eq_default}
+use Rattle.std.specs.Prelude.{option_map, replicate, unsigned_abs, unwrap_or, ◌&&◌, ◌==◌, ◌||◌}
+use Rattle.{sim_attack.specs.declared.finds.Find.Find, sim_base.specs.declared.state.State.State, sim_base.specs.declared.template.Arms.Arms}
+use Rattle.{sim_plans.proofs.Suiting.same_point-true, std.specs.Prelude.IfSome, std.specs.Prelude.is_some, std.specs.Prelude.length, std.specs.Prelude.nat_le}
 
 -- a filter that each member passes
 filter_all : {X : Type 0} (p : X → Bool) (xs : List X) → ((x : X) → Has xs x → p x ≡ true) → filter p xs ≡ xs
@@ -91,3 +93,48 @@ module _ (setup : Setup) (state : State) where
   pub filled_found : (finds : List (Option Find)) → AreFound setup state finds → AreFound setup state (filled finds)
   filled_found [] all = All-replicate Found find_places None tt
   filled_found (first ∷ rest) all = all
+
+-- The target of a row is the nearest enemy that it sees, where it may take that one, and else none: if the nearest is out of the
+-- range of a row that holds its place, so are all others.
+
+module _ (setup : Setup) (state : State) (row : Row) (arms : Arms) where
+  abbrev key : ℕ → List ℕ
+  key id = square_to state row id ∷ id ∷ []
+
+  abbrev reach : ℕ
+  reach = unsigned_abs arms.range * unsigned_abs arms.range
+
+  -- a row that may take one may take each that is not farther
+  nearer_is_taken : IsDownward key (may_take state row arms)
+  nearer_is_taken x y e = by (is_holding row)
+    where
+      nearer : square_to state row x ≤ square_to state row y
+      nearer = first_of_not_before (square_to state row y) (square_to state row x) (y ∷ []) (x ∷ []) e
+
+      by : (b : Bool) → (not b || nat_le (square_to state row y) reach) ≡ true → (not b || nat_le (square_to state row x) reach) ≡ true
+      by false h = refl
+      by true h = grind (arith, nearer)
+
+  pub target_is : target_for setup state row arms ≡
+      cond (may_take state row arms (nearest_of state row (seen setup state row arms))) (nearest_of state row (seen setup state row arms)) 0
+  target_is =
+      ap (λ (o : Option ℕ). unwrap_or o 0) (least_of-filter key (may_take state row arms) nearer_is_taken (seen setup state row arms)) ∙
+      by (least_of key (seen setup state row arms))
+    where
+      alike : (b : Bool) (n : ℕ) → unwrap_or (cond b (Some n) None) 0 ≡ cond b n 0
+      alike true n = refl
+      alike false n = refl
+
+      either : (b : Bool) (n : ℕ) → n ≡ cond b n n
+      either true n = refl
+      either false n = refl
+
+      by : (o : Option ℕ) → unwrap_or (option_filter (may_take state row arms) o) 0 ≡ cond (may_take state row arms (unwrap_or o 0)) (unwrap_or o 0) 0
+      by None = either (may_take state row arms 0) 0
+      by (Some n) = alike (may_take state row arms n) n
+
+  -- the target, from the nearest that the row sees
+  pub target_from : (nearest : ℕ) (takes : Bool) → nearest ≡ nearest_of state row (seen setup state row arms) → may_take state row arms nearest ≡ takes
+      → cond takes nearest 0 ≡ target_for setup state row arms
+  target_from nearest takes is may =
+      ap (λ (b : Bool). cond b nearest 0) (sym may) ∙ ap (λ (n : ℕ). cond (may_take state row arms n) n 0) is ∙ sym target_is

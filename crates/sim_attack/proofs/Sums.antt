@@ -1,12 +1,13 @@
 -- What all landed hits on each row take, when one more lands and when a row has fought.
-use Rattle.{sim_attack.specs.Fights.AreTaken, sim_attack.specs.Fights.fought_on, sim_base.proofs.RowPlaces.apart_at, sim_base.specs.Filters.is_near}
-use Rattle.sim_base.specs.Hit.{fights, Hit, lands, resist_of, rests, strikes, strikes_near, taken, taken_from}
-use Rattle.sim_base.specs.{Numbers.next_word, Rows.arms_of, Rows.id_of, Rows.row_of, declared.setup.Setup.Setup, declared.state.Aim.Aim, declared.state.Row.Row}
-use Rattle.{sim_base.specs.declared.state.State.State, sim_base.specs.declared.template.Arms.Arms, std.proofs.Common.[], std.proofs.Common.◌++◌}
-use Rattle.std.proofs.Common.{◌+◌, ◌-◌, ◌<◌, ◌∙◌, ◌∷◌, ◌≡◌, ap, arith, Bool, cond, false, filter, get_or, length, length-set, List, map, Option, refl, set}
-use Rattle.std.proofs.{Common.Some, Common.sym, Common.true, Common.ℕ, Common.⊎_elim, lemmas.Bool.cases_eq, lemmas.Bool.cond-false, lemmas.Bool.cond-true}
-use Rattle.std.proofs.lemmas.{Bool.eq-eqb, Bool.ne_eqb, List.get_or-set_other, List.get_or-set_same, List.get_or_default, List.Elements.filter-append}
-use Rattle.std.{proofs.lemmas.List.Sums.sum_by-append, specs.List.Sorted.IsStrictlyIncreasing, specs.Prelude.◌==◌, specs.Prelude.sum_by}
+use Rattle.sim_attack.specs.Fights.{AreTaken, fought_on}
+use Rattle.sim_base.specs.{Commands.is_near, Places.next_word, Rows.arms_of, Rows.id_of, Rows.row_of, Turn.Hit, Turn.fights, Turn.lands, Turn.resist_of}
+use Rattle.sim_base.specs.{Turn.rests, Turn.strikes, Turn.strikes_near, Turn.taken, Turn.taken_from, declared.setup.Setup.Setup, declared.state.Aim.Aim}
+use Rattle.sim_base.{proofs.RowPlaces.apart_at, specs.declared.state.Row.Row, specs.declared.state.State.State, specs.declared.template.Arms.Arms}
+use Rattle.std.proofs.Common.{[], ap, arith, Bool, cond, false, filter, get_or, length, length-set, List, map, Option, refl, set, Some, sym, true, ℕ, ⊎_elim}
+use Rattle.std.proofs.Common.{◌++◌, ◌+◌, ◌-◌, ◌<◌, ◌∙◌, ◌∷◌, ◌≡◌}
+use Rattle.std.proofs.lemmas.Bool.{cases_eq, cond-false, cond-true, eq-eqb, ne_eqb}
+use Rattle.std.proofs.lemmas.List.{Elements.filter-append, Sums.sum_by-append, get_or-set_other, get_or-set_same, get_or_default}
+use Rattle.std.specs.{List.Sorted.IsStrictlyIncreasing, Prelude.sum_by, Prelude.◌==◌}
 
 -- one more hit
 taken_from-more : (id : ℕ) (hits : List Hit) (h : Hit) → taken_from id (hits ++ h ∷ []) ≡ taken_from id hits + cond (h.target == id) h.taken 0

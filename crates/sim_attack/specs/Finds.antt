@@ -1,9 +1,11 @@
 -- What fighters have found, and which others find the same.
-use Rattle.std.specs.{Ordering.int_eq, Prelude.Option, Prelude.unwrap_or, Prelude.option_map}
-use Rattle.std.specs.Prelude.{◌≡◌, ℕ, ◌+◌, ◌*◌, ◌/◌, ◌%◌, Bool, ◌&&◌, List, [], ◌∷◌, replicate, ℤ, IfSome, if◌then◌else◌, ◌==◌, unsigned_abs, Some, None, All}
-use Rattle.sim_attack.specs.declared.finds.Find.{Find}
-use Rattle.sim_base.specs.{Filters.within, Least.least_of, Places.square, Rows.enemies_of, Rows.row_of}
-use Rattle.sim_base.specs.{Move.same_point, declared.place.Point.Point, declared.setup.Setup.Setup, declared.state.Row.Row, declared.state.State.State}
+use Rattle.sim_attack.specs.declared.{aim.Candidate.Candidate, battle.Battle.Battle, finds.Find.Find}
+use Rattle.sim_base.specs.{Commands.within, Limits.IsKnownRow, Limits.IsLooselyValid, Limits.IsSetup, Places.square, Rows.enemies_of, Rows.row_of}
+use Rattle.sim_base.specs.{Turn.same_point, Turn.square_to, Ways.is_before, Ways.least_of, declared.place.Point.Point, declared.setup.Setup.Setup}
+use Rattle.std.specs.Prelude.{[], All, Bool, IfSome, if◌then◌else◌, List, None, Option, option_map, replicate, Some, unsigned_abs, unwrap_or, ℕ, ℤ, ◌%◌, ◌&&◌}
+use Rattle.std.specs.Prelude.{◌+◌, ◌/◌, ◌==◌, ◌∷◌, ◌≡◌}
+use Rattle.{sim_base.specs.declared.state.Row.Row, sim_base.specs.declared.state.State.State, sim_plans.specs.SceneWords.Stands}
+use Rattle.{sim_plans.specs.declared.scene.Scene.Scene, sim_system.specs.declared.system.System.Ghosts, std.specs.Ordering.int_eq, std.specs.Prelude.◌*◌}
 
 -- how many finds are kept at most
 abbrev pub find_places : ℕ
@@ -36,3 +38,34 @@ nearest_from setup state owner at vision =
 -- each find is the nearest enemy that its owner sees from there
 abbrev pub AreFound : Setup → State → List (Option Find) → Type 0
 AreFound setup state finds = All (λ o. IfSome o (λ (find : Find). find.target ≡ nearest_from setup state find.owner find.at find.vision)) finds
+
+-- The nearest of some rows.
+
+-- the id of the nearest, of several the least, or 0
+abbrev pub nearest_of : State → Row → List ℕ → ℕ
+nearest_of state row ids = unwrap_or (least_of (λ id. square_to state row id ∷ id ∷ []) ids) 0
+
+-- the nearer of the best so far and another one
+abbrev pub better_of : Option Candidate → ℕ → ℕ → Candidate
+better_of None far id = record { far = far; id = id }
+better_of (Some seen) far id = if is_before (far ∷ id ∷ []) (seen.far ∷ seen.id ∷ []) then record { far = far; id = id } else seen
+
+-- the best so far stands for this id, at its own distance
+pub record StandsFor (state : State) (row : Row) (best : Option Candidate) (o : Option ℕ) : Type 0 where
+  pub id : option_map (λ (seen : Candidate). seen.id) best ≡ o
+  pub far : IfSome best (λ seen. seen.far ≡ square_to state row seen.id)
+
+-- What is known of a row that fights in a battle, and of one that looks for a target.
+
+-- the setup is within its limits, the state is loosely valid, and the row is one that may stand in it
+pub record Knows (battle : Battle) (row : Row) : Type 0 where
+  pub limits : IsSetup battle.setup.now
+  pub valid : IsLooselyValid battle.setup.now battle.state.now
+  pub row_is : IsKnownRow 0 battle.setup.now battle.state.now.rows row
+
+-- the scene stands, the row is found in it by its id, and so were the finds
+pub record MayLook {X : Type 0} {F : X → Type 0} (scene : Scene X F) (row : Row) (kept : List (Option Find)) (sys : (i : X) → Ghosts (F i)) : Type 0 where
+  pub stands : Stands scene sys
+  pub row_is : IsKnownRow 0 scene.setup.now scene.state.now.rows row
+  pub found : row_of scene.state.now row.id ≡ Some row
+  pub finds : AreFound scene.setup.now scene.state.now kept

@@ -1,4 +1,2 @@
-pub mod Battles
-pub mod Fights
 pub mod Finds
-pub mod Nearest
+pub mod Fights

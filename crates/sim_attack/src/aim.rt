@@ -4,17 +4,16 @@
 //! holds its place. So the nearest enemy that one row finds is kept for others of its owner that stand where it stands. A row
 //! that holds its place takes it where it is within range; if it is not, no other is.
 
-ghost use Rattle.{sim_plans.specs.SceneWords.Stands, sim_system.specs.Answers.seen_from};
-ghost use Rattle.std.specs.{Prelude.◌≡◌, Prelude.◌++◌, Prelude.IfOk, Prelude.OnOk, Prelude.IsSome, Prelude.MatchOption, Prelude.Some, Result.ForOk};
-ghost use Rattle.sim_attack.specs.{Battles.Knows, Battles.MayLook, Finds.AreFound, Finds.nearest_from, Nearest.better_of, Nearest.nearest_of};
-ghost use Rattle.sim_base.specs.{Aim.square_to as square_to_by, Limits.IsSetup, Places.IsPlaced};
-ghost use Rattle.sim_base.specs.{Rows.arms_of as arms_by, Rows.row_of, Rows.target_of as target_by, Validity.IsKnownRow};
-ghost use Rattle.sim_base.specs.Aim.{aimed, is_idle as is_idle_by, lets_go as lets_go_by, may_take as may_take_by, reaches as reaches_by};
-ghost use Rattle.sim_plans.specs.{PlanLaws.IsPlanOf, Plans.aim_changes_of, Plans.aim_plan, Plans.next_target};
+ghost use Rattle.std.specs.{Prelude.IfOk, Prelude.OnOk, Prelude.Some, Prelude.◌++◌, Prelude.◌≡◌, Result.ForOk};
+ghost use Rattle.sim_attack.specs.Finds.{AreFound, better_of, Knows, MayLook, nearest_from, nearest_of};
+ghost use Rattle.sim_base.specs.Turn.{aimed, is_idle as is_idle_by, lets_go as lets_go_by, may_take as may_take_by, reaches as reaches_by};
+ghost use Rattle.sim_base.specs.Turn.{square_to as square_to_by};
+ghost use Rattle.sim_base.specs.{Limits.IsKnownRow, Limits.IsSetup, Places.IsPlaced, Rows.arms_of as arms_by, Rows.row_of, Rows.target_of as target_by};
+ghost use Rattle.sim_plans.specs.{Plans.IsPlanOf, Plans.aim_changes_of, Plans.aim_plan, Plans.next_target, SceneWords.Stands};
 
 use crate::battle::Battle;
 use crate::finds::Finds;
-use sim_base::{Arms, Changes, Ids, Items, OutOfMemory, Point, Row, Setup, square};
+use sim_base::{Arms, Changes, Items, OutOfMemory, Point, Row, Setup, square};
 use sim_plans::{
     RowIndex, Scene, arms_of, is_enemy_of, is_going, is_holding, is_near, push_target, push_turn,
     target_of,
@@ -111,7 +110,10 @@ fn nearest_seen(
     if let Some(target) = finds.target_for(row, arms.vision) {
         return Ok(target);
     }
-    let ids = seen_by(scene, row.id)?;
+    let ids = match scene.ask(&Ask::Seen { id: row.id })? {
+        Answer::Many { ids } => ids,
+        _ => unreachable!(),
+    };
     let battle = Battle {
         setup: scene.setup,
         state: scene.state,
@@ -135,18 +137,6 @@ fn may_take(index: &RowIndex, scene: &Scene<'_>, row: &Row, arms: &Arms, id: u32
     match index.find_row(scene.state, id) {
         Some(other) => is_near(&other.at, &row.at, arms.range),
         None => true,
-    }
-}
-
-// The enemies that a row with arms sees, ascending by id.
-fn seen_by(scene: &Scene<'_>, id: u32) -> Result<Ids, OutOfMemory>
-    requires stands { Stands scene.now ⟦<dyn System as System>⟧ }
-    requires armed { MatchOption (row_of scene.now.state.now id) ⊥ (λ row. IsSome (arms_by scene.now.setup.now row)) }
-    ensures { IfOk result (λ ids. ids ≡ seen_from scene.now.setup.now scene.now.state.now (row_of scene.now.state.now id)) }
-{
-    match scene.ask(&Ask::Seen { id })? {
-        Answer::Many { ids } => Ok(ids),
-        _ => unreachable!(),
     }
 }
 

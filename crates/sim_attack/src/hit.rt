@@ -2,11 +2,11 @@
 //!
 //! Each row fights against the state as it was; what landed hits take is kept in one sum for each row, at its place.
 
-ghost use Rattle.{sim_attack.specs.Fights.AreTaken, sim_attack.specs.Fights.fought_on, sim_plans.specs.SceneWords.Stands, std.specs.Result.ForOk};
-ghost use Rattle.std.specs.Prelude.{◌≡◌, ℕ, ◌+◌, ◌^◌, ◌<◌, ◌≤◌, List, [], ◌∷◌, ◌++◌, length, IfOk, OnOk, All};
-ghost use Rattle.sim_base.specs.{Hit.Hit, Hit.hit, Hit.lands as lands_by, Limits.IsSetup, Validity.IsLooselyValid};
-ghost use Rattle.sim_attack.specs.Battles.{Knows};
-ghost use Rattle.sim_plans.specs.{PlanLaws.IsPlanOf, Plans.cooldown_change, Plans.fight_changes_of, Plans.hit_plan, Plans.hurt_changes_by};
+ghost use Rattle.std.specs.Prelude.{[], All, IfOk, length, List, OnOk, ℕ, ◌++◌, ◌+◌, ◌<◌, ◌^◌, ◌∷◌, ◌≡◌, ◌≤◌};
+ghost use Rattle.std.specs.Result.{ForOk};
+ghost use Rattle.sim_attack.specs.{Fights.AreTaken, Fights.fought_on, Finds.Knows};
+ghost use Rattle.sim_base.specs.{Limits.IsLooselyValid, Limits.IsSetup, Turn.Hit, Turn.hit, Turn.lands as lands_by};
+ghost use Rattle.sim_plans.specs.{Plans.IsPlanOf, Plans.cooldown_change, Plans.fight_changes_of, Plans.hit_plan, Plans.hurt_changes_by, SceneWords.Stands};
 
 use crate::battle::Battle;
 use crate::damage::taken;

@@ -1,9 +1,8 @@
 -- Worked examples, computed from the definitions: each value was worked out by hand or by another program.
-use Rattle.std.proofs.Common.{◌≡◌, ◌%◌, true, false, [], ◌∷◌, replicate, pos, neg_ℤ, Some, None, refl, lit<, lit≤}
-use Rattle.std.specs.{Fmt.digits, Prelude.codes}
-use Rattle.sim_base.{proofs.RootLemmas.root_is, specs.Least.least_of, specs.Names.is_name, specs.declared.place.Point.Point}
-use Rattle.sim_base.specs.{NumberText.number_of, NumberText.text_of, Numbers.is_raw, Numbers.next_word, Numbers.product, Numbers.quotient, Numbers.root}
-use Rattle.sim_base.specs.Places.{cell_of, cells_of, centre_of, covers, is_inside, is_rect_inside, rect_of, square}
+use Rattle.sim_base.specs.Places.{cell_of, cells_of, centre_of, covers, is_inside, is_raw, is_rect_inside, next_word, product, quotient, rect_of, root, square}
+use Rattle.sim_base.specs.{Names.is_name, NumberText.number_of, NumberText.text_of, Ways.least_of, declared.place.Point.Point}
+use Rattle.std.proofs.Common.{[], false, lit<, lit≤, neg_ℤ, None, pos, refl, replicate, Some, true, ◌%◌, ◌∷◌, ◌≡◌}
+use Rattle.{sim_base.proofs.RootLemmas.root_is, std.specs.Fmt.digits, std.specs.Prelude.codes}
 
 -- ---- products and quotients
 

@@ -4,9 +4,7 @@ pub mod RowPlaces
 pub mod GroundPoints
 pub mod Keyed
 pub mod RootLemmas
-pub mod NumberTextLemmas
-pub mod AppendedTexts
 pub mod PrintedNumbers
+pub mod AppendedTexts
 pub mod Examples
 pub mod ExampleMatches
-pub mod ExampleWalks

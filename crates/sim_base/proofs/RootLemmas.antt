@@ -1,7 +1,7 @@
 -- The root of a number is determined by its square and the next one.
+use Rattle.sim_base.specs.Places.{greatest, IsRoot, root}
+use Rattle.std.proofs.Common.{Bool, ap, arith, cond, false, leb, refl, suc, sym, true, zero, ℕ, ⊎_elim, ◌*◌, ◌+◌, ◌<◌, ◌∙◌, ◌≡◌, ◌≤◌}
 use Rattle.std.proofs.{Math.Nat.eq-or-lt_of_le, lemmas.Bool.le-leb, lemmas.Bool.lt-leb, lemmas.Bool.true≢false, lemmas.Nat.mul-le}
-use Rattle.std.proofs.Common.{◌≡◌, ℕ, zero, suc, ◌+◌, ◌*◌, ◌<◌, ◌≤◌, Bool, true, false, cond, leb, refl, ap, arith, sym, ⊎_elim, ◌∙◌}
-use Rattle.sim_base.specs.Numbers.{greatest, IsRoot, root}
 
 -- a number that passes, where none above it does, is the greatest
 greatest_is : (test : ℕ → Bool) (bound r : ℕ) → r ≤ bound → test r ≡ true → ((k : ℕ) → r < k → k ≤ bound → test k ≡ false) → greatest test bound ≡ r

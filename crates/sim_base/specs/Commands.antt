@@ -1,13 +1,127 @@
 -- What a command of a player makes of a state. A command whose condition fails leaves it.
-use Rattle.std.specs.{List.list_any, Prelude.filter, Prelude.Option}
-use Rattle.std.specs.Prelude.{ℕ, Bool, true, false, ◌&&◌, List, [], map, length, is_some, is_none, if◌then◌else◌, nat_lt, ◌==◌, slice_get, Some, None, fold}
-use Rattle.sim_base.specs.{Changes.aimed_at, Changes.created, Changes.halted, Changes.released, Changes.removed, Changes.with_stance, Limits.row_limit}
-use Rattle.sim_base.specs.{Filters.is_free_rect, Filters.population, Filters.spot, declared.place.Cell.Cell, declared.place.Point.Point}
-use Rattle.sim_base.specs.Places.{centre_of, is_inside, rect_of}
-use Rattle.sim_base.specs.Rows.{enemies_of, id_of, in_mask, row_of, size_of, template_of}
-use Rattle.sim_base.specs.declared.{command.Command.Command, command.PlayerCommand.PlayerCommand, template.Base.Base, template.Template.Template}
-use Rattle.sim_base.specs.declared.{setup.Setup.Setup, state.Aim.Aim, state.Motion.Motion, state.Motion.TheVariants.Going, state.Row.Row, state.State.State}
+use Rattle.sim_base.specs.declared.change.Change.TheVariants as change
 use Rattle.sim_base.specs.declared.command.Command.TheVariants.{Attack, Delete, Place, Resign, Stop, Train, Walk}
+use Rattle.sim_base.specs.declared.template.{Arms.Arms, Base.Base, Template.Template}
+use Rattle.sim_base.specs.declared.{change.Change.Change, command.PlayerCommand.PlayerCommand, state.Motion.TheVariants.Going, state.Motion.TheVariants.Still}
+use Rattle.sim_base.specs.declared.{place.Cell.Cell, place.Point.Point, place.Rect.Rect, setup.Setup.Setup, state.Aim.Aim, state.Row.Row, state.State.State}
+use Rattle.sim_base.specs.{Limits.row_limit, Places.Field, Places.cells_of, Places.centre_of, Places.covers, Places.is_inside, Places.is_rect_inside}
+use Rattle.sim_base.specs.{Places.rect_of, Places.square, Rows.enemies_of, Rows.id_of, Rows.in_mask, Rows.rect_of_row, Rows.row_of, Rows.size_of}
+use Rattle.sim_base.specs.{Rows.target_of, Rows.template_of, Ways.least_of, declared.command.Command.Command, declared.state.Motion.Motion}
+use Rattle.std.specs.List.{list_all, list_any}
+use Rattle.std.specs.Prelude.{[], Bool, count_by, false, filter, fold, if◌then◌else◌, is_none, is_some, length, List, map, nat_le, nat_lt, None, not, Option}
+use Rattle.std.specs.Prelude.{option_map, slice_get, Some, true, unsigned_abs, ℕ, ℤ, ◌&&◌, ◌*◌, ◌++◌, ◌+◌, ◌==◌, ◌||◌, ◌∷◌}
+
+-- What a change makes of a state.
+
+-- a row with another target
+abbrev pub aimed_at : ℕ → Row → Row
+aimed_at target row = record row { attack = option_map (λ (aim : Aim). record aim { target = target }) row.attack }
+
+-- a row that holds its place or does not, if it can attack at all
+abbrev pub with_stance : Bool → Row → Row
+with_stance hold row = record row { attack = option_map (λ (aim : Aim). record aim { hold = hold }) row.attack }
+
+-- a row that stands still, if it can move at all
+abbrev pub halted : Row → Row
+halted row = record row { motion = option_map (λ (motion : Motion). Still) row.motion }
+
+-- the target becomes none, and a motion becomes still; one that holds its place goes on holding it
+abbrev pub released : Row → Row
+released row = halted (aimed_at 0 row)
+
+-- the row with this id is changed
+abbrev pub with_row : ℕ → (Row → Row) → State → State
+with_row id changed state = record state { rows = map (λ row. if row.id == id then changed row else row) state.rows }
+
+-- the row leaves, and the rows whose target it was are released
+abbrev pub removed : ℕ → State → State
+removed id state =
+    record state { rows = map (λ row. if target_of row == id then released row else row) (filter (λ row. not (row.id == id)) state.rows) }
+
+-- a new row is unhurt, stands still, has no target and does not hold its place
+abbrev pub new_row : ℕ → ℕ → Point → ℕ → Template → Row
+new_row id number p owner template =
+    record {
+      id = id;
+      template = number;
+      at = p;
+      owner = owner;
+      health = template.health;
+      motion = option_map (λ (speed : ℤ). Still) template.speed;
+      attack = option_map (λ (arms : Arms). record { target = 0; cooldown = 0; hold = false }) template.arms;
+    }
+
+-- a new row of a template that is known has the next id
+abbrev pub with_new : ℕ → Point → ℕ → Option Template → State → State
+with_new number p owner None state = state
+with_new number p owner (Some template) state =
+    record state { next = state.next + 1; rows = state.rows ++ new_row state.next number p owner template ∷ [] }
+
+-- the state with a new row of a known template; of an unknown one, the state as it is
+abbrev pub created : Setup → State → ℕ → Point → ℕ → State
+created setup state number p owner = with_new number p owner (slice_get setup.templates number) state
+
+-- the state after one change
+abbrev pub applied : Setup → State → Change → State
+applied setup state (change.Move id p) = with_row id (λ row. record row { at = p }) state
+applied setup state (change.Motion id motion) = with_row id (λ row. record row { motion = Some motion }) state
+applied setup state (change.Attack id aim) = with_row id (λ row. record row { attack = Some aim }) state
+applied setup state (change.Health id health) = with_row id (λ row. record row { health = Some health }) state
+applied setup state (change.Owner id owner) = with_row id (λ row. record row { owner = owner }) state
+applied setup state (change.Remove id) = removed id state
+applied setup state (change.Create number p owner) = created setup state number p owner
+applied setup state (change.Word word) = record state { word = word }
+applied setup state change.Tick = record state { turn = state.turn + 1 }
+
+-- changes are made in order
+abbrev pub applied_all : Setup → State → List Change → State
+applied_all setup = fold (applied setup)
+
+-- What is asked of a state: each answer is a filter, a count or a least member over all rows or all cells.
+
+abbrev pub rect_covers : Option Rect → Cell → Bool
+rect_covers None c = false
+rect_covers (Some r) c = covers r c
+
+-- no closed rectangle and no row's rectangle covers the cell
+abbrev pub is_open : Setup → State → Cell → Bool
+is_open setup state c =
+    not (list_any (λ r. covers r c) setup.land.closed) && not (list_any (λ row. rect_covers (rect_of_row setup row) c) state.rows)
+
+-- the ground over which ways are asked
+abbrev pub field_of : Setup → State → Field
+field_of setup state = record { size = size_of setup.land; is_open = is_open setup state }
+
+-- the rectangle lies on the ground, and all its cells are open
+abbrev pub is_free_rect : Setup → State → Rect → Bool
+is_free_rect setup state r =
+    is_rect_inside (size_of setup.land) r && list_all (λ c. not (covers r c) || is_open setup state c) (cells_of (size_of setup.land))
+
+-- two points are at most a raw apart
+abbrev pub is_near : Point → Point → ℤ → Bool
+is_near p q radius = nat_le (square p q) (unsigned_abs radius * unsigned_abs radius)
+
+-- the rows with health of the masked owners that are near a point, ascending by id
+abbrev pub within : State → Point → ℤ → ℕ → List ℕ
+within state p radius mask =
+    map id_of (filter (λ row. is_some row.health && in_mask mask row.owner && is_near row.at p radius) state.rows)
+
+-- the enemies that a row with these arms sees, ascending by id
+abbrev pub seen : Setup → State → Row → Arms → List ℕ
+seen setup state row arms = filter (λ id. not (id == row.id)) (within state row.at arms.vision (enemies_of setup row.owner))
+
+-- the rows whose target this is, ascending by id; none for no target
+abbrev pub watchers : State → ℕ → List ℕ
+watchers state id = map id_of (filter (λ row. not (id == 0) && target_of row == id) state.rows)
+
+-- how many rows an owner has
+abbrev pub population : State → ℕ → ℕ
+population state owner = count_by (λ row. row.owner == owner) state.rows
+
+-- the open cell whose centre is nearest to a point; of several the one with the least z, then the least x
+abbrev pub spot : Setup → State → Point → Option Cell
+spot setup state p =
+    least_of (λ c. square (centre_of c) p ∷ c.z ∷ c.x ∷ []) (filter (is_open setup state) (cells_of (size_of setup.land)))
 
 -- a row is ordered where the commander owns it and its id is among those named, however often
 abbrev pub is_ordered : ℕ → List ℕ → Row → Bool

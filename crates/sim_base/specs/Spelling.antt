@@ -1,9 +1,31 @@
 -- The bytes of a state: a head, the clock, and seven sections, each with the rows that have its part.
-use Rattle.{sim_base.specs.declared.place.Point.Point, sim_base.specs.declared.setup.Setup.Setup, std.specs.List.flat_map, std.specs.List.filter_map}
-use Rattle.std.specs.Prelude.{ℕ, ◌%◌, Bool, false, List, [], ◌∷◌, ◌++◌, length, ℤ, pos, if◌then◌else◌, ◌==◌, Some, codes, Option, option_map}
 use Rattle.md5.specs.Md5.{md5}
-use Rattle.sim_base.specs.Bytes.{flag_bytes, i32_bytes, u16_bytes, u32_bytes, u64_bytes}
-use Rattle.sim_base.specs.declared.state.{Aim.Aim, Motion.Motion, Motion.TheVariants.Going, Motion.TheVariants.Still, Row.Row, State.State}
+use Rattle.sim_base.specs.declared.state.{Motion.TheVariants.Still, Row.Row, State.State}
+use Rattle.sim_base.specs.declared.{place.Point.Point, setup.Setup.Setup, state.Aim.Aim, state.Motion.Motion, state.Motion.TheVariants.Going}
+use Rattle.std.specs.Prelude.{Some, [], codes, false, if◌then◌else◌, length, option_map, pos, ℕ, ℤ, ◌%◌, ◌++◌, ◌==◌, ◌∷◌}
+use Rattle.std.specs.{Int.cast_unsigned, Int.to_le_bytes, Int.w16, Int.w32, Int.w64, List.filter_map, List.flat_map, Prelude.Bool, Prelude.List, Prelude.Option}
+
+-- Numbers as bytes, the lowest byte first. They stay closed, so that no proof computes with single bytes by chance.
+
+-- two bytes
+unfoldable pub u16_bytes : ℕ → List ℕ
+u16_bytes n = to_le_bytes w16 n
+
+-- four bytes
+unfoldable pub u32_bytes : ℕ → List ℕ
+u32_bytes n = to_le_bytes w32 n
+
+-- eight bytes
+unfoldable pub u64_bytes : ℕ → List ℕ
+u64_bytes n = to_le_bytes w64 n
+
+-- four bytes, a negative number by its two's complement
+unfoldable pub i32_bytes : ℤ → List ℕ
+i32_bytes z = to_le_bytes w32 (cast_unsigned w32 z)
+
+-- one byte, 1 for yes
+abbrev pub flag_bytes : Bool → List ℕ
+flag_bytes b = (if b then 1 else 0) ∷ []
 
 -- the version of the layout that is written; version 1 is read too
 abbrev pub version : ℕ

@@ -2,8 +2,8 @@
 //! of their own, so that a raw is never taken for a number of metres.
 
 ghost use Rattle.std.specs.Int.{int_div_euclid, w32};
-ghost use Rattle.std.specs.Prelude.{◌≡◌, ◌≢◌, pos, ◌+ℤ◌, ◌-ℤ◌, ◌*ℤ◌, SomeIff, FitsSigned};
-ghost use Rattle.sim_base.specs.Numbers.{product, quotient, unit};
+ghost use Rattle.std.specs.Prelude.{FitsSigned, pos, SomeIff, ◌*ℤ◌, ◌+ℤ◌, ◌-ℤ◌, ◌≡◌, ◌≢◌};
+ghost use Rattle.sim_base.specs.Places.{product, quotient, unit};
 
 use std::marker::Model;
 

@@ -1,7 +1,7 @@
 //! Whole-number helpers of the simulation: the root, by which distances are measured, and the random word.
 
-ghost use Rattle.std.specs.Prelude.{◌≡◌, ◌^◌, ◌<◌};
-ghost use Rattle.sim_base.specs.Numbers.{IsRoot, next_word as word_after, root as root_of};
+ghost use Rattle.std.specs.Prelude.{◌<◌, ◌^◌, ◌≡◌};
+ghost use Rattle.sim_base.specs.Places.{IsRoot, next_word as word_after, root as root_of};
 
 /// The greatest whole number whose square is at most `n`.
 pub fn root(n: u64) -> u32

@@ -1,7 +1,7 @@
 -- A system that was told of a note keeps what the changed state says.
 use Rattle.sim_board.proofs.Common.{AreTold, AreWatching, arith, Born, Census, Change, change_told, Fact, fact_of, facts-unchanged, facts_of, first_told, Fits}
-use Rattle.sim_board.proofs.Common.{Some, None, fold, filter, Option, option_map, refl, Aim, Aimed, all_told, AllMayHear, ap, apart, applied, AreFed, AreKept}
-use Rattle.sim_board.proofs.Common.{found_row, four, Gone, Ground, Has, hears, id_is_some, IsFed, IsLooselyValid, IsSetup, IsStanding, IsTold, Kind, Land}
+use Rattle.sim_board.proofs.Common.{Some, None, fold, filter, Option, option_map, refl, Aim, Aimed, all_told, AllMayHear, ap, apart, applied, AreFed}
+use Rattle.sim_board.proofs.Common.{found_row, Gone, Ground, Has, hears, id_is_some, IsFed, IsLooselyValid, IsSetup, IsStanding, IsTold, Kind, Land}
 use Rattle.sim_board.proofs.Common.{left_told, let_go_state, MayHear, Meaning, Moved, new_row, Note, noted, NoteFits, OfRow, Owned, part-aimed_watch, Point}
 use Rattle.sim_board.proofs.Common.{posts, posts_born, posts_on, Range, release_all, released, released_is_state, removed, removed_is_left, Row, row_of}
 use Rattle.sim_board.proofs.Common.{same_row, Setup, slice_get_cases, State, subst, sym, Systems, target_of, Template, then_watching, told, unheard, Watch}

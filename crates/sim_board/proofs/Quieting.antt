@@ -1,8 +1,8 @@
 -- Aims by which rows keep their targets, one after another.
 use Rattle.sim_base.specs.declared.change.Change.TheVariants as change
-use Rattle.sim_board.proofs.Common.{◌+◌, ◌<◌, ◌∙◌, ◌∷◌, ◌≡◌, Aim, AllFit, ap, applied, AreFed, Change, drop, fitting_keeps_loose, found, get_or, IsLooselyValid}
-use Rattle.sim_board.proofs.Common.{IsSetup, length, List, MatchOption, None, Option, refl, Row, row_of, Setup, Some, State, subst, suc, sym, target_of, ℕ}
-use Rattle.sim_board.{proofs.Feeding.all_fed_same, proofs.Feeding.same_aim, specs.ChangeKinds.KeepsTarget, specs.Leading.LeadsOn}
+use Rattle.sim_board.proofs.Common.{Aim, AllFit, ap, applied, AreFed, Change, drop, fitting_keeps_loose, found, get_or, IsLooselyValid, IsSetup, length, List}
+use Rattle.sim_board.proofs.Common.{MatchOption, None, Option, refl, Row, row_of, Setup, Some, State, subst, suc, sym, target_of, ℕ, ◌+◌, ◌<◌, ◌∙◌, ◌∷◌, ◌≡◌}
+use Rattle.sim_board.{proofs.Feeding.all_fed_same, proofs.Feeding.same_aim, specs.Boards.KeepsTarget, specs.Boards.LeadsOn}
 use Rattle.{sim_system.specs.Meanings.Systems, std.proofs.Common.add-one, std.proofs.Math.Seq.drop-cons}
 
 -- the row at the place that was found has this target already

@@ -1,7 +1,7 @@
 -- After a change whose notes were told, the scene stands.
 use Rattle.sim_base.specs.declared.change.Change.TheVariants as change
-use Rattle.sim_board.proofs.Common.{◌≡◌, applied, AreFed, Change, Err, Fits, fitting_keeps_loose, IsStanding, Ok, OnOk, Result, Setup, State, subst, sym}
-use Rattle.sim_board.{proofs.Common.Systems, specs.ChangeKinds.IsNoCreation, specs.ChangeKinds.KeepsTarget, specs.ChangeKinds.NeedsNoMemory}
+use Rattle.sim_board.proofs.Common.{applied, AreFed, Change, Err, Fits, fitting_keeps_loose, IsStanding, Ok, OnOk, Result, Setup, State, subst, sym, Systems}
+use Rattle.sim_board.{proofs.Common.◌≡◌, specs.Boards.IsNoCreation, specs.Boards.KeepsTarget, specs.Boards.NeedsNoMemory}
 
 module _ (setup : Setup) (state after : State) (c : Change) (s t : Systems) (stands : IsStanding setup state s) (fits : Fits setup state c)
     (fed : AreFed setup (applied setup state c) t) where

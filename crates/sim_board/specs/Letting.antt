@@ -1,6 +1,6 @@
 -- Rows are released, one after another.
-use Rattle.std.specs.Prelude.{ℕ, not, List, map, if◌then◌else◌, ◌==◌, fold, filter}
-use Rattle.sim_base.specs.{Changes.released, declared.state.Row.Row, declared.state.State.State}
+use Rattle.sim_base.specs.{Commands.released, declared.state.Row.Row, declared.state.State.State}
+use Rattle.std.specs.Prelude.{filter, fold, if◌then◌else◌, List, map, not, ℕ, ◌==◌}
 
 -- the row with this id is released
 abbrev pub row_released : List Row → ℕ → List Row

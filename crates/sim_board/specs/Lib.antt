@@ -1,7 +1,3 @@
-pub mod BoardWords
-pub mod ChangeKinds
+pub mod Boards
 pub mod Hearing
 pub mod Letting
-pub mod Leading
-pub mod Boards
-pub mod Stepping

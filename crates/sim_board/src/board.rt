@@ -1,14 +1,12 @@
 //! The calls of a board.
 
-ghost use Rattle.sim_base.specs.{Limits.IsSetup, Turn.first_state as first_state_of, Validity.IsValid};
-ghost use Rattle.sim_board.specs.BoardWords.{is_whole, IsWhole, rig_in, setup_in, state_in, systems};
-ghost use Rattle.sim_board.specs.{Boards.Begins, Boards.Makes, Leading.LeadsOn};
-ghost use Rattle.{sim_plans.specs.Fits.AllFit, sim_plans.specs.Fits.Fits, sim_plans.specs.SceneWords.Stands, sim_system.specs.Meanings.HaveKinds};
-ghost use Rattle.std.specs.Prelude.{[], ◌≡◌, ◌≤◌, drop, false, length};
+ghost use Rattle.std.specs.Prelude.{[], false, ◌≡◌};
+ghost use Rattle.sim_base.specs.{Limits.IsSetup, Limits.IsValid, Turn.first_state as first_state_of};
+ghost use Rattle.sim_board.specs.Boards.{Begins, IsWhole, Makes, is_whole, rig_in, setup_in, state_in, systems};
+ghost use Rattle.{sim_plans.specs.RowChanges.Fits, sim_plans.specs.SceneWords.Stands, sim_system.specs.Meanings.HaveKinds};
 
 use crate::build::build;
 use crate::first::first_state;
-use crate::quiet::keep_aims;
 use sim_base::{Change, Items, OutOfMemory, Setup, State};
 use sim_plans::Scene;
 use sim_system::{Rig, System};
@@ -112,25 +110,6 @@ impl<'a> Board<'a> {
         self.step(change)?;
         self.whole = true;
         Ok(())
-    }
-
-    /// Makes the first of these changes, as many as are aims by which a row keeps its target. Answers how many these are.
-    pub(crate) fn keep_aims(&mut self, changes: &[Change]) -> usize
-        requires whole { IsWhole self.old ⟦<dyn System as System>⟧ }
-        requires fit { AllFit (setup_in self.old) (state_in self.old) changes.now }
-        ensures within { result ≤ length changes.now }
-        ensures leads { LeadsOn (setup_in self.old) (state_in self.old) (state_in self.new) changes.now (drop result changes.now) }
-        ensures whole { IsWhole self.new ⟦<dyn System as System>⟧ }
-        ensures rig { rig_in self.new ≡ rig_in self.old }
-        ensures setup { setup_in self.new ≡ setup_in self.old }
-    {
-        keep_aims(
-            self.alloc,
-            self.setup,
-            &mut self.state,
-            &mut self.near,
-            changes,
-        )
     }
 
     /// The moment, which can be asked.

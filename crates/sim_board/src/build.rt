@@ -1,6 +1,7 @@
 //! The systems are built from a state.
 
-ghost use Rattle.{sim_base.specs.Limits.IsSetup, sim_base.specs.Validity.IsLooselyValid, std.specs.Prelude.OnOk};
+ghost use Rattle.std.specs.Prelude.{OnOk};
+ghost use Rattle.sim_board.specs.Boards.{IsLooseIn};
 ghost use Rattle.sim_system.specs.{Meanings.AreBuiltOnce, Meanings.AreBuiltOnceAtMost, Meanings.AreFed, Meanings.HaveKinds, RigWords.systems_of};
 
 use crate::row::told;
@@ -10,8 +11,7 @@ use std::alloc::Global;
 
 /// Builds each of the four once.
 pub fn build(alloc: Global, setup: &Setup, state: &State, rig: &mut Rig) -> Result<(), OutOfMemory>
-    requires limits { IsSetup setup.now }
-    requires valid { IsLooselyValid setup.now state.now }
+    requires loose { IsLooseIn setup.now state.now }
     requires kinds { HaveKinds (systems_of rig.old ⟦<dyn System as System>⟧) }
     ensures fed { OnOk result (AreFed setup.now state.now (systems_of rig.new ⟦<dyn System as System>⟧)) }
     ensures kinds { HaveKinds (systems_of rig.new ⟦<dyn System as System>⟧) }

@@ -1,13 +1,13 @@
 //! The state after a change. No system is told here. Near which place the row of a change stands is a hint.
 
-ghost use Rattle.{sim_plans.specs.Fits.Fits, std.specs.List.Sorted.IsStrictlyIncreasing};
-ghost use Rattle.std.specs.Prelude.{◌≡◌, ◌-◌, ◌^◌, ◌<◌, [], map, length, OnOk, IsOk};
-ghost use Rattle.sim_base.specs.{Changes.applied, Changes.created, Limits.IsSetup, Rows.id_of, Validity.IsLooselyValid, declared.setup.Setup.Setup as SetupOf};
-ghost use Rattle.sim_board.specs.{ChangeKinds.IsNoCreation, ChangeKinds.IsNoRemoval, Letting.left_by};
+ghost use Rattle.std.specs.List.Sorted.{IsStrictlyIncreasing};
+ghost use Rattle.std.specs.Prelude.{[], IsOk, length, map, OnOk, ◌-◌, ◌<◌, ◌^◌, ◌≡◌};
+ghost use Rattle.sim_base.specs.{Commands.applied, Commands.created, Rows.id_of, declared.setup.Setup.Setup as SetupOf};
+ghost use Rattle.sim_board.specs.{Boards.IsLooseIn, Boards.IsNoCreation, Boards.IsNoRemoval, Letting.left_by};
+ghost use Rattle.sim_plans.specs.RowChanges.{Fits};
 
-use crate::edit::{
-    add_row, release_rows, set_at, set_attack, set_health, set_motion, set_owner, take_row,
-};
+use crate::edit::{add_row, release_rows, take_row};
+use crate::near::place_near;
 use crate::row::Birth;
 use sim_base::{Change, Items, Motion, OutOfMemory, Row, Setup, State};
 use std::alloc::Global;
@@ -20,8 +20,7 @@ pub fn make(
     change: &mut Change,
     near: usize,
 ) -> Result<(), OutOfMemory>
-    requires limits { IsSetup setup.now }
-    requires valid { IsLooselyValid setup.now state.old }
+    requires loose { IsLooseIn setup.now state.old }
     requires fits { Fits setup.now state.old change.old }
     requires stays { IsNoRemoval change.old }
     ensures applied { OnOk result (state.new ≡ applied setup.now state.old change.old) }
@@ -55,14 +54,31 @@ fn set(rows: &mut Vec<Row>, state: &mut State, change: &mut Change, near: usize)
     ensures { (setup : SetupOf) → record state.new { rows = rows.new.items } ≡ applied setup (record state.old { rows = rows.old.items }) change.old }
 {
     match change {
-        Change::Move { id, at } => set_at(rows, *id, at, near),
-        Change::Motion { id, motion } => {
-            let motion = std::mem::replace(motion, Motion::Still);
-            set_motion(rows, *id, motion, near);
+        Change::Move { id, at } => {
+            if let Some(place) = place_near(rows.as_slice(), *id, near) {
+                rows[place].at = *at;
+            }
         }
-        Change::Attack { id, aim } => set_attack(rows, *id, *aim, near),
-        Change::Health { id, health } => set_health(rows, *id, *health, near),
-        Change::Owner { id, owner } => set_owner(rows, *id, *owner, near),
+        Change::Motion { id, motion } => {
+            if let Some(place) = place_near(rows.as_slice(), *id, near) {
+                rows[place].motion = Some(std::mem::replace(motion, Motion::Still));
+            }
+        }
+        Change::Attack { id, aim } => {
+            if let Some(place) = place_near(rows.as_slice(), *id, near) {
+                rows[place].attack = Some(*aim);
+            }
+        }
+        Change::Health { id, health } => {
+            if let Some(place) = place_near(rows.as_slice(), *id, near) {
+                rows[place].health = Some(*health);
+            }
+        }
+        Change::Owner { id, owner } => {
+            if let Some(place) = place_near(rows.as_slice(), *id, near) {
+                rows[place].owner = *owner;
+            }
+        }
         Change::Word { word } => state.word = *word,
         Change::Tick => state.turn += 1,
         Change::Create { .. } | Change::Remove { .. } => unreachable!(),

@@ -1,63 +1,13 @@
-//! One part of one row is set, or a row is released, leaves or is made. A row is found near the last one or by halves, and no
-//! other is touched.
+//! A row is released, leaves or is made. It is found near the last one or by halves, and no other is touched.
 
-ghost use Rattle.{sim_board.specs.Letting.row_released, sim_board.specs.Letting.rows_released, std.specs.List.Sorted.IsStrictlyIncreasing};
-ghost use Rattle.std.specs.Prelude.{◌≡◌, not, [], ◌∷◌, ◌++◌, map, if◌then◌else◌, OnOk, ◌==◌, Some, filter};
-ghost use Rattle.sim_base.specs.{Changes.new_row as row_made, Changes.released as released_by, Rows.id_of, declared.state.Row.Row as AnyRow};
+ghost use Rattle.std.specs.List.Sorted.{IsStrictlyIncreasing};
+ghost use Rattle.std.specs.Prelude.{[], filter, map, not, OnOk, ◌++◌, ◌==◌, ◌∷◌, ◌≡◌};
+ghost use Rattle.sim_base.specs.{Commands.new_row as row_made, Commands.released as released_by, Rows.id_of, declared.state.Row.Row as AnyRow};
+ghost use Rattle.sim_board.specs.Letting.{row_released, rows_released};
 
 use crate::near::place_near;
 use crate::row::Birth;
-use sim_base::{Aim, Fixed, Motion, OutOfMemory, Point, Row, Template};
-
-/// The row with this id stands at a point.
-pub fn set_at(rows: &mut Vec<Row>, id: u32, at: &Point, near: usize)
-    requires { IsStrictlyIncreasing (map id_of rows.old.items) }
-    ensures { rows.new.items ≡ map (λ (row : AnyRow). if row.id == id then record row { at = at.now } else row) rows.old.items }
-{
-    if let Some(place) = place_near(rows.as_slice(), id, near) {
-        rows[place].at = *at;
-    }
-}
-
-/// The row with this id moves so.
-pub fn set_motion(rows: &mut Vec<Row>, id: u32, motion: Motion, near: usize)
-    requires { IsStrictlyIncreasing (map id_of rows.old.items) }
-    ensures { rows.new.items ≡ map (λ (row : AnyRow). if row.id == id then record row { motion = Some motion } else row) rows.old.items }
-{
-    if let Some(place) = place_near(rows.as_slice(), id, near) {
-        rows[place].motion = Some(motion);
-    }
-}
-
-/// The row with this id attacks so.
-pub fn set_attack(rows: &mut Vec<Row>, id: u32, aim: Aim, near: usize)
-    requires { IsStrictlyIncreasing (map id_of rows.old.items) }
-    ensures { rows.new.items ≡ map (λ (row : AnyRow). if row.id == id then record row { attack = Some aim } else row) rows.old.items }
-{
-    if let Some(place) = place_near(rows.as_slice(), id, near) {
-        rows[place].attack = Some(aim);
-    }
-}
-
-/// The row with this id has this health.
-pub fn set_health(rows: &mut Vec<Row>, id: u32, health: Fixed, near: usize)
-    requires { IsStrictlyIncreasing (map id_of rows.old.items) }
-    ensures { rows.new.items ≡ map (λ (row : AnyRow). if row.id == id then record row { health = Some health } else row) rows.old.items }
-{
-    if let Some(place) = place_near(rows.as_slice(), id, near) {
-        rows[place].health = Some(health);
-    }
-}
-
-/// The row with this id is this owner's.
-pub fn set_owner(rows: &mut Vec<Row>, id: u32, owner: u8, near: usize)
-    requires { IsStrictlyIncreasing (map id_of rows.old.items) }
-    ensures { rows.new.items ≡ map (λ (row : AnyRow). if row.id == id then record row { owner = owner } else row) rows.old.items }
-{
-    if let Some(place) = place_near(rows.as_slice(), id, near) {
-        rows[place].owner = owner;
-    }
-}
+use sim_base::{Aim, Motion, OutOfMemory, Row, Template};
 
 // The row is released.
 fn release(row: &mut Row)

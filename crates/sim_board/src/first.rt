@@ -1,7 +1,7 @@
 //! The state in which a match begins.
 
-ghost use Rattle.std.specs.Prelude.{◌≡◌, IfOk};
-ghost use Rattle.sim_base.specs.{Limits.IsSetup, Turn.first_state as first_state_of, Validity.IsValid};
+ghost use Rattle.std.specs.Prelude.{IfOk, ◌≡◌};
+ghost use Rattle.sim_base.specs.{Limits.IsSetup, Limits.IsValid, Turn.first_state as first_state_of};
 
 use crate::change::create;
 use crate::row::Birth;

@@ -1,8 +1,8 @@
 //! A board over a list of changes: whatever is applied after a start or an adoption, its scene stands.
 
-ghost use Rattle.sim_base.specs.{Changes.applied_all, Limits.IsSetup, Turn.first_state, Validity.IsValid};
-ghost use Rattle.sim_board.specs.{Boards.Begins, Boards.MakesAll, BoardWords.IsWhole, BoardWords.setup_in, BoardWords.state_in, BoardWords.systems};
-ghost use Rattle.{sim_plans.specs.Fits.AllFit, sim_system.specs.Meanings.HaveKinds};
+ghost use Rattle.sim_base.specs.{Commands.applied_all, Limits.IsSetup, Limits.IsValid, Turn.first_state};
+ghost use Rattle.sim_board.specs.Boards.{Begins, IsWhole, MakesAll, setup_in, state_in, systems};
+ghost use Rattle.{sim_plans.specs.RowChanges.AllFit, sim_system.specs.Meanings.HaveKinds};
 
 use crate::board::Board;
 use sim_base::{Changes, OutOfMemory, State};

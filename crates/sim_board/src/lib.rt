@@ -9,7 +9,7 @@
 //! - `post`: the notes of a change, to the systems that keep it.
 //! - `tell`: one note to all four systems.
 //! - `change`: the state after a change.
-//! - `edit`: one part of one row.
+//! - `edit`: a row is released, leaves or is made.
 //! - `quiet`: aims by which rows keep their targets, of which no system is told.
 //! - `near`: the place of a row, near that of the last one.
 //! - `row`: a living row, and what systems are told of it.

@@ -36,18 +36,8 @@ fn place_ahead(rows: &[Row], id: u32, near: usize) -> Option<usize>
     None
 }
 
-/// Where the row of a change stands; where the last one stood, if the change is about no row.
-pub fn place_for(rows: &[Row], change: &Change, near: usize) -> usize
-    requires { IsStrictlyIncreasing (map id_of rows.now) }
-{
-    match row_in(change) {
-        Some(id) => place_near(rows, id, near).unwrap_or(near),
-        None => near,
-    }
-}
-
-// The id of the row that a change is about, if it is about one.
-fn row_in(change: &Change) -> Option<u32> {
+/// The id of the row that a change is about, if it is about one.
+pub fn row_in(change: &Change) -> Option<u32> {
     match change {
         Change::Move { id, .. }
         | Change::Motion { id, .. }

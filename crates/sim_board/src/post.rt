@@ -1,12 +1,11 @@
 //! The notes of each change, to the systems that keep it. The state is still as it was before. The row of a change stands near
 //! the place that the board keeps for it.
 
-ghost use Rattle.{sim_base.specs.Filters.watchers as watchers_of, sim_board.specs.BoardWords.AreKept, sim_board.specs.BoardWords.state_in};
-ghost use Rattle.sim_board.specs.{ChangeKinds.IsNoRemoval, ChangeKinds.KeepsTarget, ChangeKinds.NeedsNoMemory, Stepping.MayTell, Stepping.Tells};
-ghost use Rattle.sim_plans.specs.{Releases.AreWatching, Releases.release_all, SceneWords.IsStanding};
-ghost use Rattle.sim_system.specs.{Meanings.AreFed, RigWords.systems_of};
-ghost use Rattle.std.specs.Prelude.{◌≡◌, IfOk, IsOk, OnOk};
 ghost use Rattle.sim_base.specs.declared.change.Change.TheVariants as change;
+ghost use Rattle.std.specs.Prelude.{IfOk, IsOk, OnOk, ◌≡◌};
+ghost use Rattle.sim_board.specs.Boards.{AreKept, IsNoRemoval, KeepsTarget, MayTell, NeedsNoMemory, state_in, Tells};
+ghost use Rattle.{sim_base.specs.Commands.watchers as watchers_of, sim_plans.specs.Releases.AreWatching, sim_plans.specs.Releases.release_all};
+ghost use Rattle.{sim_plans.specs.SceneWords.IsStanding, sim_system.specs.Meanings.AreFed, sim_system.specs.RigWords.systems_of};
 
 use crate::board::Board;
 use crate::row::{Birth, born, fact_of, living};

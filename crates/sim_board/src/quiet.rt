@@ -1,15 +1,17 @@
 //! Aims by which rows keep their targets: a fighter waits, or has hit. No system is told of them, and a phase has one for each
 //! fighter, so the rows are taken out of the state once for all of them.
 
-ghost use Rattle.{sim_base.specs.Limits.IsSetup, sim_base.specs.Rows.id_of, sim_base.specs.Validity.IsLooselyValid, sim_board.specs.Leading.AreAroundKept};
-ghost use Rattle.{sim_board.specs.Leading.LeadsOn, sim_plans.specs.Fits.AllFit, std.specs.List.Sorted.IsStrictlyIncreasing};
-ghost use Rattle.std.specs.Prelude.{◌≡◌, ◌≤◌, drop, IfNone, IfSome, length, map};
+ghost use Rattle.std.specs.List.Sorted.{IsStrictlyIncreasing};
+ghost use Rattle.std.specs.Prelude.{drop, IfNone, IfSome, length, map, ◌≡◌, ◌≤◌};
+ghost use Rattle.{sim_base.specs.Rows.id_of, sim_board.specs.Boards.AreAroundKept, sim_board.specs.Boards.IsWhole, sim_board.specs.Boards.LeadsOn};
+ghost use Rattle.{sim_board.specs.Boards.rig_in, sim_board.specs.Boards.setup_in, sim_board.specs.Boards.state_in, sim_plans.specs.RowChanges.AllFit};
 
+use crate::board::Board;
 use crate::change::take_rows;
 use crate::near::place_near;
-use sim_base::{Change, Items, Row, Setup, State};
+use sim_base::{Change, Items, Row};
 use sim_plans::target_of;
-use std::alloc::Global;
+use sim_system::System;
 
 // Sets an aim by which its row keeps its target. Answers where the row stands; where the change is another one, nothing is set.
 fn keep_aim(rows: &mut Vec<Row>, change: &Change, near: usize) -> Option<usize>
@@ -31,29 +33,29 @@ fn keep_aim(rows: &mut Vec<Row>, change: &Change, near: usize) -> Option<usize>
     None
 }
 
-/// Makes the first of these changes, as many as are such aims. Answers how many these are.
-pub fn keep_aims(
-    alloc: Global,
-    setup: &Setup,
-    state: &mut State,
-    near: &mut usize,
-    changes: &[Change],
-) -> usize
-    requires limits { IsSetup setup.now }
-    requires valid { IsLooselyValid setup.now state.old }
-    requires fit { AllFit setup.now state.old changes.now }
-    ensures within { result ≤ length changes.now }
-    ensures leads { LeadsOn setup.now state.old state.new changes.now (drop result changes.now) }
-{
-    let mut rows = take_rows(alloc, state);
-    let mut kept = 0;
-    for change in changes {
-        let Some(place) = keep_aim(&mut rows, change, *near) else {
-            break;
-        };
-        *near = place;
-        kept += 1;
+impl Board<'_> {
+    /// Makes the first of these changes, as many as are such aims. Answers how many these are.
+    pub(crate) fn keep_aims(&mut self, changes: &[Change]) -> usize
+        requires whole { IsWhole self.old ⟦<dyn System as System>⟧ }
+        requires fit { AllFit (setup_in self.old) (state_in self.old) changes.now }
+        ensures within { result ≤ length changes.now }
+        ensures leads { LeadsOn (setup_in self.old) (state_in self.old) (state_in self.new) changes.now (drop result changes.now) }
+        ensures whole { IsWhole self.new ⟦<dyn System as System>⟧ }
+        ensures rig { rig_in self.new ≡ rig_in self.old }
+        ensures setup { setup_in self.new ≡ setup_in self.old }
+    {
+        let mut rows = take_rows(self.alloc, &mut self.state);
+        let mut near = self.near;
+        let mut kept = 0;
+        for change in changes {
+            let Some(place) = keep_aim(&mut rows, change, near) else {
+                break;
+            };
+            near = place;
+            kept += 1;
+        }
+        self.near = near;
+        self.state.rows = Items::from_items(rows);
+        kept
     }
-    state.rows = Items::from_items(rows);
-    kept
 }

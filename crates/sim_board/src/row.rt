@@ -1,12 +1,13 @@
 //! A living row, and what systems are told of it.
 
-ghost use Rattle.{sim_base.specs.Changes.new_row, sim_base.specs.Limits.IsSetup, sim_base.specs.Places.IsPlaced, std.specs.List.Sorted.IsStrictlyIncreasing};
-ghost use Rattle.std.specs.Prelude.{◌≡◌, ◌<◌, map, length, IfOk, IsSome, slice_get, Some};
-ghost use Rattle.sim_base.specs.{Rows.id_of, Rows.rect_of_row, Rows.row_of, Validity.IsLooselyValid, declared.template.Template.Template as AnyTemplate};
-ghost use Rattle.sim_system.specs.Facts.{fact_of as fact_by, told_of, vision_of as vision_by};
+ghost use Rattle.std.specs.List.Sorted.{IsStrictlyIncreasing};
+ghost use Rattle.std.specs.Prelude.{IfOk, IsSome, length, map, slice_get, Some, ◌<◌, ◌≡◌};
+ghost use Rattle.sim_base.specs.{Commands.new_row, Places.IsPlaced, Rows.id_of, Rows.row_of, declared.template.Template.Template as AnyTemplate};
+ghost use Rattle.sim_board.specs.Boards.{IsLooseIn};
+ghost use Rattle.sim_system.specs.Notes.{fact_of as fact_by, told_of, vision_of as vision_by};
 
 use crate::near::place_near;
-use sim_base::{Fixed, OutOfMemory, Point, Rect, Row, Setup, State, rect_of};
+use sim_base::{Fixed, OutOfMemory, Point, Row, Setup, State, rect_of};
 use sim_plans::{arms_of, target_of, template_at};
 use sim_system::{Fact, Facts};
 use std::alloc::Global;
@@ -39,20 +40,6 @@ fn vision_of(setup: &Setup, row: &Row) -> Option<Fixed>
     arms_of(setup, row).map(|arms| arms.vision)
 }
 
-// Where a row lies, if it is an obstruction.
-fn rect_at(setup: &Setup, row: &Row) -> Option<Rect>
-    requires { IsPlaced row.now.at }
-    ensures { result ≡ rect_of_row setup.now row.now }
-{
-    match template_at(setup, row.template) {
-        Some(template) => match template.obstruct {
-            Some(base) => Some(rect_of(row.at, base.width, base.depth)),
-            None => None,
-        },
-        None => None,
-    }
-}
-
 /// What systems are told of a row.
 pub fn fact_of(setup: &Setup, row: &Row) -> Fact
     requires { IsPlaced row.now.at }
@@ -64,15 +51,20 @@ pub fn fact_of(setup: &Setup, row: &Row) -> Fact
         owner: row.owner,
         health: row.health.is_some(),
         vision: vision_of(setup, row),
-        rect: rect_at(setup, row),
+        rect: match template_at(setup, row.template) {
+            Some(template) => match template.obstruct {
+                Some(base) => Some(rect_of(row.at, base.width, base.depth)),
+                None => None,
+            },
+            None => None,
+        },
         target: target_of(row),
     }
 }
 
 /// What systems are told of a state.
 pub fn told(alloc: Global, setup: &Setup, state: &State) -> Result<Facts, OutOfMemory>
-    requires limits { IsSetup setup.now }
-    requires valid { IsLooselyValid setup.now state.now }
+    requires loose { IsLooseIn setup.now state.now }
     ensures { IfOk result (λ facts. facts ≡ told_of setup.now state.now) }
 {
     let mut facts = Facts::new(alloc);

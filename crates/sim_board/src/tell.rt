@@ -1,7 +1,7 @@
 //! One note to all four systems.
 
-ghost use Rattle.std.specs.Prelude.{◌≡◌, OnOk};
-ghost use Rattle.sim_board.specs.{BoardWords.AreKept, Hearing.all_told, Hearing.AllMayHear};
+ghost use Rattle.std.specs.Prelude.{OnOk, ◌≡◌};
+ghost use Rattle.sim_board.specs.{Boards.AreKept, Hearing.AllMayHear, Hearing.all_told};
 ghost use Rattle.sim_system.specs.{Meanings.HaveKinds, RigWords.systems_of};
 
 use sim_base::OutOfMemory;

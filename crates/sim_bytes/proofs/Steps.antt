@@ -1,8 +1,8 @@
 -- Steps of the loops over rows.
-use Rattle.{sim_bytes.specs.Reading.Reader, std.proofs.Common.arith, std.proofs.Common.sym, std.proofs.Common.◌∙◌}
-use Rattle.{sim_bytes.specs.Sections.skipped, std.specs.List.flat_map, std.specs.List.filter_map, std.specs.List.cons_option, std.specs.Prelude.is_some}
-use Rattle.std.proofs.Common.{◌≡◌, ℕ, suc, ◌+◌, ◌-◌, ◌<◌, ◌≤◌, true, false, List, [], ◌∷◌, ◌++◌, length, get_or, take, Some, None, Option, refl, append_assoc}
-use Rattle.std.proofs.lemmas.List.{append-nil, length-append, take_more, Concat.flat_map-append, Elements.filter_map-append}
+use Rattle.std.proofs.Common.{[], append_assoc, arith, false, get_or, length, List, None, Option, refl, Some, suc, sym, take, true, ℕ, ◌++◌, ◌+◌, ◌-◌, ◌<◌, ◌∙◌}
+use Rattle.std.proofs.lemmas.List.{Concat.flat_map-append, Elements.filter_map-append, append-nil, length-append, take_more}
+use Rattle.std.specs.{List.cons_option, List.filter_map, List.flat_map, Prelude.is_some}
+use Rattle.{sim_bytes.specs.Reading.Reader, sim_bytes.specs.Walking.skipped, std.proofs.Common.◌∷◌, std.proofs.Common.◌≡◌, std.proofs.Common.◌≤◌}
 
 pub filter_map_more : {X Y : Type 0} (h : X → Option Y) (xs : List X) (i : ℕ) (x : X) (o : Option Y) → i < length xs → x ≡ get_or xs i x → o ≡ h x
     → filter_map h (take (i + 1) xs) ≡ filter_map h (take i xs) ++ cons_option o []

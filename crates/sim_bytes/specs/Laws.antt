@@ -1,12 +1,15 @@
 -- The bytes of a row are read as that row, whatever follows. From this one law of each form follows that no row's bytes begin another's.
-use Rattle.std.{proofs.Common.◌∙◌, proofs.lemmas.Bool.le-ltb, proofs.lemmas.List.append-nil, specs.List.flat_map, specs.List.AllByRecursion}
-use Rattle.std.proofs.Common.{◌≡◌, ℕ, Bool, true, false, cond, not, eqb, ltb, List, [], ◌∷◌, ◌++◌, length, ℤ, pos, Some, refl, ap, append_assoc, rules, sym}
-use Rattle.sim_base.specs.{Bytes.flag_bytes, Bytes.i32_bytes, Bytes.u16_bytes, Bytes.u32_bytes, Spelling.stance_bytes}
-use Rattle.sim_base.specs.Spelling.{attack_bytes, entity_bytes, health_bytes, motion_bytes, moving_bytes, owner_bytes, point_bytes, position_bytes}
-use Rattle.sim_base.specs.declared.{place.Point.Point, state.Motion.Motion, state.Motion.TheVariants.Going, state.Motion.TheVariants.Still}
-use Rattle.sim_bytes.specs.{Numbers.i32_back, Numbers.u16_back, Numbers.u32_back, Reading.Reader}
-use Rattle.sim_bytes.specs.Rows.{attack_at, entity_at, health_at, IsAttack, IsEntity, IsHealth, IsMotion, IsMoving, IsOwner, IsPoint, IsPosition, IsStance}
-use Rattle.sim_bytes.specs.Rows.{motion_at, moving_at, owner_at, point_at, points_at, position_at, stance_at}
+use Rattle.sim_base.specs.Spelling.{attack_bytes, attack_part, entity_bytes, entity_part, flag_bytes, health_bytes, health_part, i32_bytes, motion_bytes}
+use Rattle.sim_base.specs.Spelling.{motion_part, moving_bytes, owner_bytes, owner_part, point_bytes, position_bytes, position_part, stance_bytes, stance_part}
+use Rattle.sim_base.specs.declared.{place.Point.Point, state.Motion.Motion, state.Motion.TheVariants.Going, state.Motion.TheVariants.Still, state.Row.Row}
+use Rattle.sim_bytes.specs.Numbers.{i32_back, length-i32_bytes, length-u16_bytes, length-u32_bytes, u16_back, u32_back}
+use Rattle.sim_bytes.specs.Rows.{IsShort, IsStance, motion_at, moving_at, owner_at, point_at, points_at, position_at, stance_at, with_id}
+use Rattle.sim_bytes.specs.Rows.{attack_at, entity_at, HasShortWay, health_at, IsAttack, IsEntity, IsHealth, IsMotion, IsMoving, IsOwner, IsPoint, IsPosition}
+use Rattle.std.proofs.Common.{[], ap, append_assoc, arith, Bool, cond, eqb, false, length, length-append, List, ltb, None, not, Option, pos, refl, rules, Some}
+use Rattle.std.proofs.Common.{sym, true, ℕ, ℤ, ◌*◌, ◌++◌, ◌∙◌, ◌∷◌, ◌≡◌, ◌≤◌}
+use Rattle.std.proofs.lemmas.List.{append-nil}
+use Rattle.std.specs.{List.AllByRecursion, List.flat_map, Prelude.IfSome, Prelude.option_map}
+use Rattle.{sim_base.specs.Spelling.u16_bytes, sim_base.specs.Spelling.u32_bytes, sim_bytes.specs.Reading.Reader, std.proofs.lemmas.Bool.le-ltb}
 
 -- where rows are read back, no row's bytes begin another's
 pub prefix_nil : {X : Type 0} (at : Reader X) (spelled : X → List ℕ) (IsRow : X → Type 0)
@@ -101,3 +104,73 @@ unfolding moving_at
 moving_back r rest fits =
     ap moving_at (append_assoc (u32_bytes r.0) (motion_bytes r.1) rest) ∙ rw (u32_back r.0 (motion_bytes r.1 ++ rest) fits.id, motion_back r.1 rest fits.motion)
     refl
+
+-- How many bytes a row has in each section: at most 527, which a motion with a way of 64 waypoints has.
+
+-- a row of a state is spelled in at most 527 bytes
+abbrev pub IsFew : {X : Type 0} → (ℕ × X → List ℕ) → Option (ℕ × X) → Type 0
+IsFew spelled o = IfSome o (λ found. length (spelled found) ≤ 527)
+
+-- the parts of a row, by whether it has them
+few_of : {X : Type 0} (spelled : ℕ × X → List ℕ) (id : ℕ) (part : Option X) → IfSome part (λ x. length (spelled (id, x)) ≤ 527)
+    → IsFew spelled (option_map (λ (x : X). (id, x)) part)
+few_of spelled id None h = tt
+few_of spelled id (Some x) h = h
+
+always : {X : Type 0} (spelled : ℕ × X → List ℕ) (id : ℕ) (part : Option X) → ((x : X) → length (spelled (id, x)) ≤ 527)
+    → IsFew spelled (option_map (λ (x : X). (id, x)) part)
+always spelled id None h = tt
+always spelled id (Some x) h = h x
+
+length-point_bytes : (p : Point) → length (point_bytes p) ≡ 8
+length-point_bytes p = omega (arith, length-append (i32_bytes p.x) (i32_bytes p.z), length-i32_bytes p.x, length-i32_bytes p.z)
+
+length-points : (way : List Point) → length (flat_map point_bytes way) ≡ 8 * length way
+length-points [] = refl
+length-points (p ∷ way) = omega (arith, length-append (point_bytes p) (flat_map point_bytes way), length-point_bytes p, length-points way)
+
+pub entity_few : (row : Row) → HasShortWay row → IsFew entity_bytes (with_id entity_part row)
+entity_few row short = omega (arith, length-append (u32_bytes row.id) (u16_bytes row.template), length-u32_bytes row.id, length-u16_bytes row.template)
+
+pub position_few : (row : Row) → HasShortWay row → IsFew position_bytes (with_id position_part row)
+position_few row short = omega (arith, length-append (u32_bytes row.id) (point_bytes row.at), length-u32_bytes row.id, length-point_bytes row.at)
+
+pub owner_few : (row : Row) → HasShortWay row → IsFew owner_bytes (with_id owner_part row)
+owner_few row short = omega (arith, length-append (u32_bytes row.id) (row.owner ∷ []), length-u32_bytes row.id)
+
+pub health_few : (row : Row) → HasShortWay row → IsFew health_bytes (with_id health_part row)
+health_few row short = always health_bytes row.id row.health
+    (λ h. omega (arith, length-append (u32_bytes row.id) (i32_bytes h), length-u32_bytes row.id, length-i32_bytes h))
+
+pub attack_few : (row : Row) → HasShortWay row → IsFew attack_bytes (with_id attack_part row)
+attack_few row short = always attack_bytes row.id (attack_part row) (λ x. omega (
+  arith,
+  length-append (u32_bytes row.id) (u32_bytes x.0 ++ u16_bytes x.1),
+  length-append (u32_bytes x.0) (u16_bytes x.1),
+  length-u32_bytes row.id,
+  length-u32_bytes x.0,
+  length-u16_bytes x.1,
+))
+
+pub stance_few : (row : Row) → HasShortWay row → IsFew stance_bytes (with_id stance_part row)
+stance_few row short = always stance_bytes row.id (stance_part row)
+    (λ x. omega (arith, length-append (u32_bytes row.id) (flag_bytes x), length-u32_bytes row.id))
+
+length-motion_bytes : (m : Motion) → IsShort m → length (motion_bytes m) ≤ 523
+length-motion_bytes Still short =
+    let rest : List ℕ = 0 ∷ 0 ∷ [] in
+    omega (arith, length-append (i32_bytes (pos 0)) (i32_bytes (pos 0) ++ rest), length-append (i32_bytes (pos 0)) rest, length-i32_bytes (pos 0))
+length-motion_bytes (Going goal way whole) short =
+    let points = flat_map point_bytes way in
+    let rest = flag_bytes whole ++ length way ∷ points in
+    omega (arith, length-append (point_bytes goal) rest, length-point_bytes goal, length-append (flag_bytes whole) (length way ∷ points), length-points way)
+
+pub length-moving_bytes : (r : ℕ × Motion) → IsShort r.1 → length (moving_bytes r) ≤ 527
+length-moving_bytes r short = omega (arith, length-append (u32_bytes r.0) (motion_bytes r.1), length-u32_bytes r.0, length-motion_bytes r.1 short)
+
+pub moving_few : (row : Row) → HasShortWay row → IsFew moving_bytes (with_id motion_part row)
+moving_few row short = few_of moving_bytes row.id row.motion (by_part row.motion short)
+  where
+    by_part : (part : Option Motion) → IfSome part IsShort → IfSome part (λ m. length (moving_bytes (row.id, m)) ≤ 527)
+    by_part None h = tt
+    by_part (Some m) h = length-moving_bytes (row.id, m) h

@@ -5,8 +5,5 @@ pub mod Hex
 pub mod Digesting
 pub mod Rows
 pub mod Laws
-pub mod Lengths
-pub mod Sections
-pub mod Versions
-pub mod SectionLaws
 pub mod Walking
+pub mod SectionLaws

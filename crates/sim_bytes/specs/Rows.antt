@@ -1,10 +1,10 @@
 -- The rows of the sections as they are read: for each an id and a part, with the bytes that follow.
-use Rattle.std.specs.{Int.cast_signed, Int.from_le_bytes, Int.w16, Int.w32, List.AllByRecursion, Prelude.Option, Prelude.option_map}
-use Rattle.std.specs.Prelude.{ℕ, zero, suc, ◌^◌, ◌<◌, ◌≤◌, Bool, not, List, [], ◌∷◌, length, take, drop, ℤ, IfSome, if◌then◌else◌, nat_lt, ◌==◌}
-use Rattle.std.specs.Prelude.{FitsSigned, Some, None}
-use Rattle.sim_base.specs.Limits.{waypoint_limit}
 use Rattle.sim_base.specs.declared.{place.Point.Point, state.Motion.Motion, state.Motion.TheVariants.Going, state.Motion.TheVariants.Still, state.Row.Row}
 use Rattle.sim_bytes.specs.Reading.{byte_at, number_at, Reader, signed_at, ◌>>=◌}
+use Rattle.sim_bytes.specs.declared.version.Version.{TheVariants.One, TheVariants.Two, Version}
+use Rattle.std.specs.Prelude.{[], Bool, drop, false, FitsSigned, IfSome, if◌then◌else◌, length, List, nat_lt, None, not, Option, option_map, Some, suc, take}
+use Rattle.std.specs.{Int.cast_signed, Int.from_le_bytes, Int.w16, Int.w32, List.AllByRecursion, Prelude.true, Prelude.zero, Prelude.ℕ, Prelude.ℤ, Prelude.◌<◌}
+use Rattle.{sim_base.specs.Limits.waypoint_limit, std.specs.Prelude.◌==◌, std.specs.Prelude.◌^◌, std.specs.Prelude.◌∷◌, std.specs.Prelude.◌≤◌}
 
 -- a part beside the id of its row
 abbrev pub with_id : {X : Type 0} → (Row → Option X) → Row → Option (ℕ × X)
@@ -134,3 +134,15 @@ pub record IsStance (r : ℕ × Bool) : Type 0 where
 -- reads an id and whether it holds; every byte but 0 is read as yes
 unfoldable pub stance_at : Reader (ℕ × Bool)
 stance_at bytes = number_at w32 bytes >>= λ id. byte_at id.1 >>= λ hold. Some ((id.0, not (hold.0 == 0)), hold.1)
+
+-- The versions of the layout of a stored state.
+
+-- the number that stands behind the magic
+abbrev pub number_of : Version → ℕ
+number_of One = 1
+number_of Two = 2
+
+-- version 2 says who holds its place
+abbrev pub has_stances : Version → Bool
+has_stances One = false
+has_stances Two = true

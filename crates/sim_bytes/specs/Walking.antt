@@ -1,10 +1,34 @@
 -- A state as it is read: the sections are found, and then each row is put together from a reader in each of them.
-use Rattle.std.specs.Prelude.{◌≡◌, ℕ, Bool, false, ◌&&◌, List, is_some, slice_get, Some, None, Ok, Err, Option, Result, unwrap_or, option_map}
 use Rattle.sim_base.specs.declared.{state.Aim.Aim, state.Row.Row, template.Template.Template}
-use Rattle.sim_bytes.specs.{Reading.Reader, Reading.◌>>=◌, declared.take.Short.Short}
-use Rattle.sim_bytes.specs.{Sections.row_if, Sections.section_at, Versions.has_stances, declared.walk.Parts.Parts, declared.walk.Walk.Walk}
-use Rattle.sim_bytes.specs.Rows.{attack_at, entity_at, health_at, moving_at, owner_at, position_at, stance_at}
-use Rattle.sim_bytes.specs.declared.version.Version.{Version, TheVariants.One, TheVariants.Two}
+use Rattle.sim_bytes.specs.declared.{take.Short.Short, version.Version.TheVariants.One, version.Version.TheVariants.Two, version.Version.Version}
+use Rattle.sim_bytes.specs.{Reading.Reader, Reading.byte_at, Reading.number_at, Reading.◌>>=◌, Rows.attack_at, Rows.entity_at, Rows.has_stances, Rows.health_at}
+use Rattle.sim_bytes.specs.{Rows.moving_at, Rows.owner_at, Rows.position_at, Rows.stance_at, declared.walk.Parts.Parts, declared.walk.Walk.Walk}
+use Rattle.std.specs.Prelude.{Bool, Err, false, if◌then◌else◌, is_some, List, None, Ok, Option, option_map, Result, slice_get, Some, suc, unwrap_or, zero, ℕ}
+use Rattle.std.specs.{Int.w32, List.flat_map, Prelude.◌&&◌, Prelude.◌++◌, Prelude.◌==◌, Prelude.◌≡◌}
+
+-- Sections as they are read.
+
+-- the bytes behind so many rows
+unfoldable pub skipped : {X : Type 0} → Reader X → ℕ → List ℕ → Option (List ℕ)
+skipped at zero bytes = Some bytes
+skipped at (suc n) bytes = at bytes >>= λ x. skipped at n x.1
+
+abbrev pub Skips : {X : Type 0} → Reader X → ℕ → List ℕ → Result (Unit {0}) Short → List ℕ → Type 0
+Skips at n old (Ok x) new = skipped at n old ≡ Some new
+Skips at n old (Err e) new = skipped at n old ≡ None
+
+-- how many rows a section has, the bytes from its first row on, and the bytes behind the section
+unfoldable pub section_at : {X : Type 0} → ℕ → Reader X → Reader (ℕ × List ℕ)
+section_at tag at bytes = byte_at bytes >>= λ t. if t.0 == tag then (number_at w32 t.1 >>= λ n. skipped at n.0 n.1 >>= λ rest. Some ((n.0, n.1), rest))
+    else None
+
+unfoldable pub row_if : {X : Type 0} → Reader X → Bool → Reader (Option X)
+row_if at wanted bytes = if wanted then (at bytes >>= λ x. Some (Some x.0, x.1)) else Some (None, bytes)
+
+-- these rows stand at the front
+pub record IsAhead {X : Type 0} (spelled : X → List ℕ) (rows : List X) (bytes : List ℕ) : Type 0 where
+  pub rest : List ℕ
+  pub is : bytes ≡ flat_map spelled rows ++ rest
 
 -- a reader in the section of stances, which version 1 does not have
 unfoldable pub stances_at : Version → Reader (List ℕ)

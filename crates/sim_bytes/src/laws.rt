@@ -1,8 +1,9 @@
 //! Theorems about the definitions, each the contract of a function that does nothing.
 
-ghost use Rattle.{sim_bytes.specs.Reading.number_at, sim_bytes.specs.Reading.signed_at, std.specs.Int.w16, std.specs.Int.w32, std.specs.Int.w64};
-ghost use Rattle.std.specs.Prelude.{◌≡◌, ℕ, ◌^◌, ◌<◌, List, ◌++◌, ℤ, FitsSigned, Some};
-ghost use Rattle.sim_base.specs.Bytes.{i32_bytes, u16_bytes, u32_bytes, u64_bytes};
+ghost use Rattle.std.specs.Int.{w16, w32, w64};
+ghost use Rattle.std.specs.Prelude.{FitsSigned, List, Some, ℕ, ℤ, ◌++◌, ◌<◌, ◌^◌, ◌≡◌};
+ghost use Rattle.sim_base.specs.Spelling.{i32_bytes, u16_bytes, u32_bytes, u64_bytes};
+ghost use Rattle.sim_bytes.specs.Reading.{number_at, signed_at};
 
 /// The bytes of a number are read as that number, whatever follows them.
 pub fn numbers_are_read_back()

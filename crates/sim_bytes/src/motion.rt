@@ -1,11 +1,11 @@
 //! The row of a motion: its length depends on the way. The way is lent by what the row is made of, a state or its bytes,
 //! so that a row is read and told without memory and is small.
 
-ghost use Rattle.sim_base.specs.{Bytes.flag_bytes, Limits.waypoint_limit, Spelling.motion_bytes, Spelling.moving_bytes, Spelling.point_bytes};
-ghost use Rattle.sim_base.specs.declared.state.Motion.TheVariants.{Going, Still};
-ghost use Rattle.sim_bytes.specs.{Reading.Reads, Reading.ReadsBy, Rows.front_at, Rows.IsShort, Rows.point_at, Rows.point_in, Rows.points_at, Telling.Tells};
 ghost use Rattle.std.specs.List.{flat_map};
-ghost use Rattle.std.specs.Prelude.{◌++◌, ◌+◌, ◌≡◌, ◌≤◌, IfOk, length, map, OnOk, ℕ};
+ghost use Rattle.std.specs.Prelude.{IfOk, length, map, OnOk, ℕ, ◌++◌, ◌+◌, ◌≡◌, ◌≤◌};
+ghost use Rattle.sim_base.specs.declared.state.Motion.TheVariants.{Going, Still};
+ghost use Rattle.sim_base.specs.{Limits.waypoint_limit, Spelling.flag_bytes, Spelling.motion_bytes, Spelling.moving_bytes, Spelling.point_bytes};
+ghost use Rattle.sim_bytes.specs.{Reading.Reads, Reading.ReadsBy, Rows.IsShort, Rows.front_at, Rows.point_at, Rows.point_in, Rows.points_at, Telling.Tells};
 
 use crate::form::RowForm;
 use crate::{Buffer, ByteSink, Short, Take, tell_i32, tell_u8, tell_u32};
@@ -26,10 +26,9 @@ pub struct MotionRow<'a> {
 }
 
 impl<'a> Model for MotionRow<'a> {
-    ghost use Rattle.std.specs.Prelude.{ℕ, ◌+◌, ◌≤◌, ◌++◌, map, length, if◌then◌else◌};
-    ghost use Rattle.sim_base.specs.Limits.{waypoint_limit};
+    ghost use Rattle.std.specs.Prelude.{if◌then◌else◌, length, map, ℕ, ◌++◌, ◌+◌, ◌≤◌};
     ghost use Rattle.sim_base.specs.declared.state.Motion.{Motion, TheVariants.Going, TheVariants.Still};
-    ghost use Rattle.sim_bytes.specs.Rows.{point_in};
+    ghost use Rattle.{sim_base.specs.Limits.waypoint_limit, sim_bytes.specs.Rows.point_in};
 
     ghost Value = { ℕ × Motion };
 
@@ -94,7 +93,7 @@ fn take_way<'a>(from: &mut Take<'a>, count: usize) -> Result<&'a [[u8; 8]], Shor
 }
 
 /// Tells a point.
-#[tactic(auto, unfolding(sim_base::specs::Bytes::i32_bytes))]
+#[tactic(auto, unfolding(sim_base::specs::Spelling::i32_bytes))]
 pub fn tell_point<K: ByteSink>(out: &mut K, point: Point) -> Result<(), K::Fault>
     ensures { OnOk result (Tells K.holds out.old out.new (point_bytes point)) }
 {
@@ -174,7 +173,7 @@ fn tell_pieces<K: ByteSink>(out: &mut K, row: &MotionRow<'_>) -> Result<(), K::F
 
 impl<'a> RowForm<'a> for MotionRow<'a> {
     ghost use Rattle.sim_base.specs.Spelling.{motion_part, moving_bytes};
-    ghost use Rattle.sim_bytes.specs.{Laws.moving_back, Laws.prefix_nil, Lengths.moving_few, Rows.IsMoving, Rows.moving_at, Rows.with_id};
+    ghost use Rattle.sim_bytes.specs.{Laws.moving_back, Laws.moving_few, Laws.prefix_nil, Rows.IsMoving, Rows.moving_at, Rows.with_id};
 
     ghost TAG = { 5 };
 

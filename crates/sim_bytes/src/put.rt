@@ -1,8 +1,8 @@
 //! Numbers at the end of a list of bytes, the lowest byte first. A list keeps its allocator, so none is handed in; a
 //! refused call leaves the list as it was.
 
-ghost use Rattle.std.specs.Prelude.{◌≡◌, [], ◌∷◌, ◌++◌, OnOk, OnErr};
-ghost use Rattle.sim_base.specs.Bytes.{i32_bytes, u16_bytes, u32_bytes, u64_bytes};
+ghost use Rattle.std.specs.Prelude.{[], OnErr, OnOk, ◌++◌, ◌∷◌, ◌≡◌};
+ghost use Rattle.sim_base.specs.Spelling.{i32_bytes, u16_bytes, u32_bytes, u64_bytes};
 
 use sim_base::OutOfMemory;
 
@@ -16,7 +16,7 @@ pub fn put_u8(out: &mut Vec<u8>, value: u8) -> Result<(), OutOfMemory>
 }
 
 /// Appends two bytes.
-#[tactic(auto, unfolding(sim_base::specs::Bytes::u16_bytes))]
+#[tactic(auto, unfolding(sim_base::specs::Spelling::u16_bytes))]
 pub fn put_u16(out: &mut Vec<u8>, value: u16) -> Result<(), OutOfMemory>
     ensures ok { OnOk result (out.new.items ≡ out.old.items ++ u16_bytes value) }
     ensures err { OnErr result (out.new.items ≡ out.old.items) }
@@ -26,7 +26,7 @@ pub fn put_u16(out: &mut Vec<u8>, value: u16) -> Result<(), OutOfMemory>
 }
 
 /// Appends four bytes.
-#[tactic(auto, unfolding(sim_base::specs::Bytes::u32_bytes))]
+#[tactic(auto, unfolding(sim_base::specs::Spelling::u32_bytes))]
 pub fn put_u32(out: &mut Vec<u8>, value: u32) -> Result<(), OutOfMemory>
     ensures ok { OnOk result (out.new.items ≡ out.old.items ++ u32_bytes value) }
     ensures err { OnErr result (out.new.items ≡ out.old.items) }
@@ -36,7 +36,7 @@ pub fn put_u32(out: &mut Vec<u8>, value: u32) -> Result<(), OutOfMemory>
 }
 
 /// Appends eight bytes.
-#[tactic(auto, unfolding(sim_base::specs::Bytes::u64_bytes))]
+#[tactic(auto, unfolding(sim_base::specs::Spelling::u64_bytes))]
 pub fn put_u64(out: &mut Vec<u8>, value: u64) -> Result<(), OutOfMemory>
     ensures ok { OnOk result (out.new.items ≡ out.old.items ++ u64_bytes value) }
     ensures err { OnErr result (out.new.items ≡ out.old.items) }
@@ -46,7 +46,7 @@ pub fn put_u64(out: &mut Vec<u8>, value: u64) -> Result<(), OutOfMemory>
 }
 
 /// Appends four bytes, in two's complement.
-#[tactic(auto, unfolding(sim_base::specs::Bytes::i32_bytes, sim_base::specs::Bytes::u32_bytes))]
+#[tactic(auto, unfolding(sim_base::specs::Spelling::i32_bytes, sim_base::specs::Spelling::u32_bytes))]
 pub fn put_i32(out: &mut Vec<u8>, value: i32) -> Result<(), OutOfMemory>
     ensures ok { OnOk result (out.new.items ≡ out.old.items ++ i32_bytes value) }
     ensures err { OnErr result (out.new.items ≡ out.old.items) }

@@ -26,7 +26,7 @@ impl Model for EntityRow {
 
 impl<'a> RowForm<'a> for EntityRow {
     ghost use Rattle.sim_base.specs.Spelling.{entity_bytes, entity_part};
-    ghost use Rattle.sim_bytes.specs.{Laws.entity_back, Laws.prefix_nil, Lengths.entity_few, Rows.entity_at, Rows.IsEntity, Rows.with_id};
+    ghost use Rattle.sim_bytes.specs.{Laws.entity_back, Laws.entity_few, Laws.prefix_nil, Rows.IsEntity, Rows.entity_at, Rows.with_id};
 
     ghost TAG = { 1 };
 
@@ -62,7 +62,7 @@ impl<'a> RowForm<'a> for EntityRow {
         Ok(EntityRow { id, template })
     }
 
-    #[tactic(auto, unfolding(sim_base::specs::Bytes::u32_bytes, sim_base::specs::Bytes::u16_bytes))]
+    #[tactic(auto, unfolding(sim_base::specs::Spelling::u32_bytes, sim_base::specs::Spelling::u16_bytes))]
     fn tell<K: ByteSink>(&self, out: &mut K) -> Result<(), K::Fault> {
         let [a, b, c, d] = self.id.to_le_bytes();
         let [e, f] = self.template.to_le_bytes();
@@ -93,7 +93,7 @@ impl Model for PositionRow {
 
 impl<'a> RowForm<'a> for PositionRow {
     ghost use Rattle.sim_base.specs.Spelling.{position_bytes, position_part};
-    ghost use Rattle.sim_bytes.specs.{Laws.position_back, Laws.prefix_nil, Lengths.position_few, Rows.IsPosition, Rows.position_at, Rows.with_id};
+    ghost use Rattle.sim_bytes.specs.{Laws.position_back, Laws.position_few, Laws.prefix_nil, Rows.IsPosition, Rows.position_at, Rows.with_id};
 
     ghost TAG = { 2 };
 
@@ -140,7 +140,7 @@ impl<'a> RowForm<'a> for PositionRow {
     ghost few_bytes = { position_few };
 }
 
-#[tactic(auto, unfolding(sim_base::specs::Bytes::u32_bytes, sim_base::specs::Bytes::i32_bytes))]
+#[tactic(auto, unfolding(sim_base::specs::Spelling::u32_bytes, sim_base::specs::Spelling::i32_bytes))]
 fn position_piece(id: u32, at: Point) -> [u8; 12]
     ensures { result ≡ position_bytes (id, at) }
 {
@@ -167,7 +167,7 @@ impl Model for OwnerRow {
 
 impl<'a> RowForm<'a> for OwnerRow {
     ghost use Rattle.sim_base.specs.Spelling.{owner_bytes, owner_part};
-    ghost use Rattle.sim_bytes.specs.{Laws.owner_back, Laws.prefix_nil, Lengths.owner_few, Rows.IsOwner, Rows.owner_at, Rows.with_id};
+    ghost use Rattle.sim_bytes.specs.{Laws.owner_back, Laws.owner_few, Laws.prefix_nil, Rows.IsOwner, Rows.owner_at, Rows.with_id};
 
     ghost TAG = { 3 };
 
@@ -203,7 +203,7 @@ impl<'a> RowForm<'a> for OwnerRow {
         Ok(OwnerRow { id, owner })
     }
 
-    #[tactic(auto, unfolding(sim_base::specs::Bytes::u32_bytes))]
+    #[tactic(auto, unfolding(sim_base::specs::Spelling::u32_bytes))]
     fn tell<K: ByteSink>(&self, out: &mut K) -> Result<(), K::Fault> {
         let [a, b, c, d] = self.id.to_le_bytes();
         out.tell(&[a, b, c, d, self.owner])
@@ -233,7 +233,7 @@ impl Model for HealthRow {
 
 impl<'a> RowForm<'a> for HealthRow {
     ghost use Rattle.sim_base.specs.Spelling.{health_bytes, health_part};
-    ghost use Rattle.sim_bytes.specs.{Laws.health_back, Laws.prefix_nil, Lengths.health_few, Rows.health_at, Rows.IsHealth, Rows.with_id};
+    ghost use Rattle.sim_bytes.specs.{Laws.health_back, Laws.health_few, Laws.prefix_nil, Rows.IsHealth, Rows.health_at, Rows.with_id};
 
     ghost TAG = { 4 };
 
@@ -272,7 +272,7 @@ impl<'a> RowForm<'a> for HealthRow {
         })
     }
 
-    #[tactic(auto, unfolding(sim_base::specs::Bytes::u32_bytes, sim_base::specs::Bytes::i32_bytes))]
+    #[tactic(auto, unfolding(sim_base::specs::Spelling::u32_bytes, sim_base::specs::Spelling::i32_bytes))]
     fn tell<K: ByteSink>(&self, out: &mut K) -> Result<(), K::Fault> {
         let [a, b, c, d] = self.id.to_le_bytes();
         let [e, f, g, h] = self.health.raw().to_le_bytes();
@@ -304,7 +304,7 @@ impl Model for AttackRow {
 
 impl<'a> RowForm<'a> for AttackRow {
     ghost use Rattle.sim_base.specs.Spelling.{attack_bytes, attack_part};
-    ghost use Rattle.sim_bytes.specs.{Laws.attack_back, Laws.prefix_nil, Lengths.attack_few, Rows.attack_at, Rows.IsAttack, Rows.with_id};
+    ghost use Rattle.sim_bytes.specs.{Laws.attack_back, Laws.attack_few, Laws.prefix_nil, Rows.IsAttack, Rows.attack_at, Rows.with_id};
 
     ghost TAG = { 6 };
 
@@ -349,7 +349,7 @@ impl<'a> RowForm<'a> for AttackRow {
         })
     }
 
-    #[tactic(auto, unfolding(sim_base::specs::Bytes::u32_bytes, sim_base::specs::Bytes::u16_bytes))]
+    #[tactic(auto, unfolding(sim_base::specs::Spelling::u32_bytes, sim_base::specs::Spelling::u16_bytes))]
     fn tell<K: ByteSink>(&self, out: &mut K) -> Result<(), K::Fault> {
         let [a, b, c, d] = self.id.to_le_bytes();
         let [e, f, g, h] = self.target.to_le_bytes();
@@ -381,7 +381,7 @@ impl Model for StanceRow {
 
 impl<'a> RowForm<'a> for StanceRow {
     ghost use Rattle.sim_base.specs.Spelling.{stance_bytes, stance_part};
-    ghost use Rattle.sim_bytes.specs.{Laws.prefix_nil, Laws.stance_back, Lengths.stance_few, Rows.IsStance, Rows.stance_at, Rows.with_id};
+    ghost use Rattle.sim_bytes.specs.{Laws.prefix_nil, Laws.stance_back, Laws.stance_few, Rows.IsStance, Rows.stance_at, Rows.with_id};
 
     ghost TAG = { 7 };
 
@@ -423,7 +423,7 @@ impl<'a> RowForm<'a> for StanceRow {
         })
     }
 
-    #[tactic(auto, unfolding(sim_base::specs::Bytes::u32_bytes))]
+    #[tactic(auto, unfolding(sim_base::specs::Spelling::u32_bytes))]
     fn tell<K: ByteSink>(&self, out: &mut K) -> Result<(), K::Fault> {
         let [a, b, c, d] = self.id.to_le_bytes();
         out.tell(&[a, b, c, d, u8::from(self.hold)])

@@ -1,8 +1,8 @@
 //! A section: a tag, the number of its rows, and the rows. Written once for all forms.
 
-ghost use Rattle.{sim_base.specs.Spelling.section, sim_bytes.specs.Reading.Reads, sim_bytes.specs.Telling.Tells};
-ghost use Rattle.std.specs.{List.flat_map, List.filter_map, Prelude.◌≡◌, Prelude.◌^◌, Prelude.◌<◌, Prelude.◌≤◌, Prelude.length, Prelude.OnOk, Prelude.All};
-ghost use Rattle.sim_bytes.specs.{Rows.HasShortWay, Sections.row_if, Sections.section_at, Sections.Skips};
+ghost use Rattle.std.specs.{List.filter_map, List.flat_map, Prelude.All, Prelude.OnOk, Prelude.length, Prelude.◌<◌, Prelude.◌^◌, Prelude.◌≡◌, Prelude.◌≤◌};
+ghost use Rattle.sim_base.specs.Spelling.{section};
+ghost use Rattle.sim_bytes.specs.{Reading.Reads, Rows.HasShortWay, Telling.Tells, Walking.Skips, Walking.row_if, Walking.section_at};
 
 use crate::form::RowForm;
 use crate::{ByteSink, Short, Take, tell_u8, tell_u32};
@@ -64,7 +64,7 @@ fn skip<'a, R: RowForm<'a>>(from: &mut Take<'a>, count: u32) -> Result<(), Short
 }
 
 /// Passes over a section: how many rows it has, and a reader at the first of them.
-#[tactic(auto, unfolding(crate::specs::Sections::section_at))]
+#[tactic(auto, unfolding(crate::specs::Walking::section_at))]
 pub fn open_section<'a, R: RowForm<'a>>(from: &mut Take<'a>) -> Result<(u32, Take<'a>), Short>
     ensures { Reads (section_at R.TAG R.row_at) from.old result from.new }
 {
@@ -79,7 +79,7 @@ pub fn open_section<'a, R: RowForm<'a>>(from: &mut Take<'a>) -> Result<(u32, Tak
 }
 
 /// Takes the next row, if one is wanted.
-#[tactic(auto, unfolding(crate::specs::Sections::row_if))]
+#[tactic(auto, unfolding(crate::specs::Walking::row_if))]
 pub fn take_if<'a, R: RowForm<'a>>(from: &mut Take<'a>, wanted: bool) -> Result<Option<R>, Short>
     ensures { Reads (row_if R.row_at wanted) from.old result from.new }
 {

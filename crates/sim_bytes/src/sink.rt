@@ -1,8 +1,8 @@
 //! Places to which bytes are told piece by piece. One writer serves them all: what is spelled into a list is also what
 //! is digested and what is compared, with no copy between.
 
-ghost use Rattle.std.specs.Prelude.{◌≡◌, ℕ, ◌↔◌, List, [], ◌∷◌, OnOk, OnErr, IsTrue};
-ghost use Rattle.sim_base.specs.Bytes.{i32_bytes, u16_bytes, u32_bytes, u64_bytes};
+ghost use Rattle.std.specs.Prelude.{[], IsTrue, List, OnErr, OnOk, ℕ, ◌↔◌, ◌∷◌, ◌≡◌};
+ghost use Rattle.sim_base.specs.Spelling.{i32_bytes, u16_bytes, u32_bytes, u64_bytes};
 ghost use Rattle.sim_bytes.specs.Telling.{Compared, ListHolds, Tells};
 
 use sim_base::OutOfMemory;
@@ -89,7 +89,7 @@ pub fn tell_u8<K: ByteSink>(out: &mut K, value: u8) -> Result<(), K::Fault>
 }
 
 /// Tells two bytes, the lowest first.
-#[tactic(auto, unfolding(sim_base::specs::Bytes::u16_bytes))]
+#[tactic(auto, unfolding(sim_base::specs::Spelling::u16_bytes))]
 pub fn tell_u16<K: ByteSink>(out: &mut K, value: u16) -> Result<(), K::Fault>
     ensures { OnOk result (Tells K.holds out.old out.new (u16_bytes value)) }
 {
@@ -97,7 +97,7 @@ pub fn tell_u16<K: ByteSink>(out: &mut K, value: u16) -> Result<(), K::Fault>
 }
 
 /// Tells four bytes, the lowest first.
-#[tactic(auto, unfolding(sim_base::specs::Bytes::u32_bytes))]
+#[tactic(auto, unfolding(sim_base::specs::Spelling::u32_bytes))]
 pub fn tell_u32<K: ByteSink>(out: &mut K, value: u32) -> Result<(), K::Fault>
     ensures { OnOk result (Tells K.holds out.old out.new (u32_bytes value)) }
 {
@@ -105,7 +105,7 @@ pub fn tell_u32<K: ByteSink>(out: &mut K, value: u32) -> Result<(), K::Fault>
 }
 
 /// Tells eight bytes, the lowest first.
-#[tactic(auto, unfolding(sim_base::specs::Bytes::u64_bytes))]
+#[tactic(auto, unfolding(sim_base::specs::Spelling::u64_bytes))]
 pub fn tell_u64<K: ByteSink>(out: &mut K, value: u64) -> Result<(), K::Fault>
     ensures { OnOk result (Tells K.holds out.old out.new (u64_bytes value)) }
 {
@@ -113,7 +113,7 @@ pub fn tell_u64<K: ByteSink>(out: &mut K, value: u64) -> Result<(), K::Fault>
 }
 
 /// Tells four bytes in two's complement, the lowest first.
-#[tactic(auto, unfolding(sim_base::specs::Bytes::i32_bytes))]
+#[tactic(auto, unfolding(sim_base::specs::Spelling::i32_bytes))]
 pub fn tell_i32<K: ByteSink>(out: &mut K, value: i32) -> Result<(), K::Fault>
     ensures { OnOk result (Tells K.holds out.old out.new (i32_bytes value)) }
 {

@@ -1,7 +1,7 @@
 //! The versions of the layout. Both are read, and the second alone is written.
 
 ghost use Rattle.std.specs.Prelude.{◌≡◌};
-ghost use Rattle.sim_bytes.specs.Versions.{has_stances as says_stances, number_of};
+ghost use Rattle.sim_bytes.specs.Rows.{has_stances as says_stances, number_of};
 
 /// A version of the layout. The first does not say who holds its place.
 #[derive(Clone, Copy, Debug, PartialEq, Eq)]

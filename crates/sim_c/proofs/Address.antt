@@ -2,28 +2,21 @@
 --     word                      how a handle lies in the machine
 --     handle_in, handle_out     what a handle owns is what is owned at its address, and the other way
 --     either                    an address that holds nothing is null, and one that holds a value is not, and may be compared with null
-use Rattle.std.proofs.{Common.[], Common.List, Common.refl, Common.subst, Common.ℕ, Common.◌++◌, Common.◌∷◌, Common.◌≡◌, GlobalToken.dealloc_token-Testable}
-use seplogic.Ra.Ura.{Ura}
-use mir.Raw.{raw as bare}
-use mir.Val.{Val, vstruct, vcons, vnil, of_list}
-use base.Fml.{Fml}
-use base.Logic.{ent, via, fst∗, snd∗, never, guard_i}
-use contract.Monad.{fact, fact_use}
-use types.Logic.{Logic, sem}
-use types.Kit.{Item, Goal, Seq, Step, step, ‵, ◌$◌, drop, fsplit, fjoin, fpick, fpack, feq_i, feq_l, given, learn, use1}
-use denote.RattleType.{RattleType, Valss}
-use denote.Builtin.{RawPtr}
-use denote.Memory.{lone}
-use denote.RawPtr.{Ptr, block_ptr, null_ptr, ptr_val, in_a_block, Testable}
-use denote.Param.Laws.{Laws}
-use denote.Steps.{nothing}
-use denote.Struct.{Owning.shape, Struct.within}
-use Rattle.std.specs.{contracts.impls.GlobalAllocator.TheImpl.ghosts, Ptr.points_to}
-use Rattle.std.specs.declared.{alloc.Global.Global, option.Option.Option, option.Option.TheVariants.None, option.Option.TheVariants.Some}
 use Rattle.std.specs.contracts.alloc.Global as heap
 use Rattle.std.proofs.alloc.Global.TheLaws as heap_laws
 use Rattle.sim_c.proofs.Parts as parts
-use Rattle.sim_c.specs.{contracts.handle.Handle.the_row as H, contracts.handle.Handle.the_type, Owned.handle_owns, Owned.Value}
+use Rattle.sim_c.specs.{Owned.Value, Owned.handle_owns, contracts.handle.Handle.the_row as H, contracts.handle.Handle.the_type}
+use Rattle.std.proofs.{Common.List, Common.[], Common.refl, Common.subst, Common.ℕ, Common.◌++◌, Common.◌∷◌, Common.◌≡◌, GlobalToken.dealloc_token-Testable}
+use Rattle.std.specs.declared.option.Option.TheVariants.{None, Some}
+use Rattle.std.specs.{Ptr.points_to, contracts.impls.GlobalAllocator.TheImpl.ghosts, declared.alloc.Global.Global, declared.option.Option.Option}
+use base.{Fml.Fml, Logic.ent, Logic.fst∗, Logic.guard_i, Logic.never, Logic.snd∗, Logic.via}
+use contract.Monad.{fact, fact_use}
+use denote.{Builtin.RawPtr, Memory.lone, Param.Laws.Laws, RattleType.RattleType, RattleType.Valss, RawPtr.Ptr, RawPtr.Testable, RawPtr.block_ptr}
+use denote.{RawPtr.in_a_block, RawPtr.null_ptr, RawPtr.ptr_val, Steps.nothing, Struct.Owning.shape, Struct.Struct.within}
+use mir.{Raw.raw as bare, Val.Val, Val.of_list, Val.vcons, Val.vnil, Val.vstruct}
+use seplogic.Ra.Ura.{Ura}
+use types.Kit.{drop, feq_i, feq_l, fjoin, fpack, fpick, fsplit, given, Goal, Item, learn, Seq, Step, step, use1, ‵, ◌$◌}
+use types.Logic.{Logic, sem}
 pub use Rattle.sim_held.specs.contracts.held.Held.{the_row as R}
 
 abbrev pub Z : RattleType

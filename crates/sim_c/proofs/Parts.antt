@@ -1,26 +1,19 @@
 -- A `Kept` by value: an address and the bits of what frees it, in the machine, and the box that it owns. Assumes `Logic`.
 --     pair, pair_fits        how the two lie in the machine, and that they fit there
 --     parts_out, parts_in    what is owned is [the box; what frees it], and the other way
-use Rattle.std.proofs.Common.{◌≡◌, ℕ, List, [], ◌∷◌, ◌++◌, refl, subst}
-use mathlib.Core.Bool.{true, ◌&&◌}
-use lib.Dec.{T}
-use seplogic.Ra.Ura.{Ura}
-use mir.Syntax.{impl, tnil, dnil}
-use mir.Raw.{raw as bare}
-use mir.Val.{Val, vstruct, vcons, vnil, of_list, has_ty, WT}
-use base.Logic.{never, fst∗}
-use types.Logic.{Logic, sem}
-use types.Kit.{Item, Goal, Seq, Step, step, ‵, ◌$◌, move, drop, fsplit, fjoin, fpick, fpack, feq_i, feq_l}
-use denote.RattleType.{RattleType, Valss}
-use denote.Builtin.{RawPtr}
-use denote.Memory.{lone}
-use denote.RawPtr.{Ptr, block_ptr, null_ptr, ptr_val, in_a_block}
-use denote.Steps.{nothing}
-use denote.Param.{Laws.Laws, layout}
-use denote.Struct.{Owning.shape, Struct.within}
-use Rattle.std.{proofs.alloc.Calls.Al, proofs.alloc.Calls.handle_tells, proofs.cell.Inside.Good, specs.declared.alloc.Allocator.Ghosts}
-use Rattle.std_alloc.{proofs.ResultValues.and_tt, specs.Box.Ownership.box_owns}
 use Rattle.sim_c.specs.contracts.kept.Kept as kept
+use Rattle.std.proofs.{Common.List, Common.[], Common.refl, Common.subst, Common.ℕ, Common.◌++◌, Common.◌∷◌, Common.◌≡◌, alloc.Calls.Al}
+use Rattle.std.{proofs.alloc.Calls.handle_tells, proofs.cell.Inside.Good, specs.declared.alloc.Allocator.Ghosts}
+use Rattle.std_alloc.{proofs.ResultValues.and_tt, specs.Box.Ownership.box_owns}
+use base.Logic.{fst∗, never}
+use denote.{Builtin.RawPtr, Memory.lone, Param.Laws.Laws, Param.layout, RattleType.RattleType, RattleType.Valss, RawPtr.Ptr, RawPtr.block_ptr}
+use denote.{RawPtr.in_a_block, RawPtr.null_ptr, RawPtr.ptr_val, Steps.nothing, Struct.Owning.shape, Struct.Struct.within}
+use lib.Dec.{T}
+use mathlib.Core.Bool.{true, ◌&&◌}
+use mir.{Raw.raw as bare, Syntax.dnil, Syntax.impl, Syntax.tnil, Val.Val, Val.WT, Val.has_ty, Val.of_list, Val.vcons, Val.vnil, Val.vstruct}
+use seplogic.Ra.Ura.{Ura}
+use types.Kit.{drop, feq_i, feq_l, fjoin, fpack, fpick, fsplit, Goal, Item, move, Seq, Step, step, ‵, ◌$◌}
+use types.Logic.{Logic, sem}
 
 abbrev pub pair : Ptr → Val → Val
 pair p h = vstruct (vcons (ptr_val p) (vcons h vnil))

@@ -1,7 +1,7 @@
 -- How what a run came to is put where C wants it.
-use Rattle.std.specs.Prelude.{◌≡◌, ℕ, Bool, ◌&&◌, List, ◌++◌, length, drop, ℤ, pos, if◌then◌else◌, nat_le, Ok, Err, IfOk, IfErr, Result}
-use Rattle.{sim_packed.specs.declared.running.Printed.Printed, sim_packed.specs.declared.running.Unrun.Unrun, sim_top.specs.Answers.status_number}
 use Rattle.sim_packed.specs.declared.running.Unrun.TheVariants as causes
+use Rattle.std.specs.Prelude.{Bool, Err, IfErr, IfOk, List, Ok, Result, drop, if◌then◌else◌, length, nat_le, pos, ℕ, ℤ, ◌&&◌, ◌++◌, ◌≡◌}
+use Rattle.{sim_packed.specs.declared.running.Printed.Printed, sim_packed.specs.declared.running.Unrun.Unrun, sim_top.specs.Reads.status_number}
 
 -- there is a run of which one thing holds, or a cause for none of which another does, and it is put so
 pub record AnswersRun (Is : Printed → Type 0) (IsCause : Unrun → Type 0) (Puts : Result Printed Unrun → Type 0) : Type 0 where

@@ -1,9 +1,5 @@
-pub mod Status
 pub mod Gives
-pub mod GivesStored
 pub mod GivesRun
 pub mod Owned
-pub mod Holding
-pub mod GivesHeld
 pub mod Clients
 pub mod Servers

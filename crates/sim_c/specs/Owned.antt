@@ -1,10 +1,8 @@
 -- What a handle owns.
-use base.Stored.{Coded}
-use base.Fml.{Fml, feq, fex}
-use denote.RawPtr.{Ptr, null_ptr}
-use Rattle.{sim_held.specs.contracts.held.Held.the_row, std.specs.contracts.impls.GlobalAllocator.TheImpl.ghosts, std.specs.declared.alloc.Global.Global}
-use Rattle.std.specs.declared.option.Option.{Option, TheVariants.None, TheVariants.Some}
-use Rattle.std_alloc.specs.Box.Ownership.{box_owns}
+use Rattle.std.specs.declared.{alloc.Global.Global, option.Option.Option, option.Option.TheVariants.None, option.Option.TheVariants.Some}
+use Rattle.{sim_held.specs.contracts.held.Held.the_row, std.specs.contracts.impls.GlobalAllocator.TheImpl.ghosts, std_alloc.specs.Box.Ownership.box_owns}
+use base.{Fml.Fml, Fml.feq, Fml.fex, Stored.Coded}
+use denote.RawPtr.{null_ptr, Ptr}
 
 -- what a handle can hold
 abbrev pub Value : Type 0

@@ -1,10 +1,9 @@
 //! A client that a handle holds. Each clause is that of the call of `sim_held` of the same name.
 
-ghost use Rattle.sim_c.specs.{Clients.LetsGo, Clients.standing_of, Gives.Answers, Gives.put_in, Gives.room_status, GivesHeld.GivesPlayed, Holding.Comes};
-ghost use Rattle.sim_c.specs.{Holding.IsClient, Holding.OfClient, Holding.Opens, Status.went_status};
-ghost use Rattle.sim_embed.specs.{Bytes.OfMatch, Causes.IsNoMatch};
-ghost use Rattle.sim_held.specs.{Calls.HearsFrame, Calls.IsCutOff, Calls.Joins, Calls.Orders, Calls.Plays, Clients.IsNew, Clients.life};
-ghost use Rattle.std.specs.Prelude.{◌==◌, ◌≡◌, IfErr, IfOk, length, not, option_map, pos};
+ghost use Rattle.std.specs.Prelude.{IfErr, IfOk, length, not, option_map, pos, ◌==◌, ◌≡◌};
+ghost use Rattle.sim_c.specs.Gives.{Answers, Comes, GivesPlayed, IsClient, OfClient, Opens, put_in, room_status, went_status};
+ghost use Rattle.sim_held.specs.Clients.{HearsFrame, IsCutOff, IsNew, Joins, Orders, Plays, life};
+ghost use Rattle.{sim_c.specs.Clients.LetsGo, sim_c.specs.Clients.standing_of, sim_embed.specs.Bytes.OfMatch, sim_embed.specs.Causes.IsNoMatch};
 
 use crate::Fault;
 use crate::giving::fill;

@@ -1,9 +1,8 @@
 //! How an answer is put where C wants it. After a refusal nothing is written but the fault, and where the room is too small nothing but
 //! how much it takes.
 
-ghost use Rattle.std.specs.Prelude.{◌≡◌, length, string_bytes};
-ghost use Rattle.sim_c.specs.Gives.{GivesItems, GivesPlace, GivesValue, mapped, put_in, room_status, stamp};
-ghost use Rattle.sim_c.specs.GivesStored.{GivesStored, outs};
+ghost use Rattle.std.specs.Prelude.{length, string_bytes, ◌≡◌};
+ghost use Rattle.sim_c.specs.Gives.{GivesItems, GivesPlace, GivesStored, GivesValue, mapped, outs, put_in, room_status, stamp};
 
 use crate::Fault;
 use crate::status::{DIFFERS, DONE, NO_ROOM, refuse};

@@ -1,8 +1,7 @@
 //! How what a call of something held came to is put where C wants it.
 
-ghost use Rattle.std.specs.Prelude.{◌≡◌, Ok, string_bytes};
-ghost use Rattle.sim_c.specs.{Gives.stamp, Status.went_status};
-ghost use Rattle.sim_c.specs.GivesHeld.{GivesLook, GivesPlayed, GivesSheet, GivesStamp, looked, sheet};
+ghost use Rattle.std.specs.Prelude.{Ok, string_bytes, ◌≡◌};
+ghost use Rattle.sim_c.specs.Gives.{GivesLook, GivesPlayed, GivesSheet, GivesStamp, looked, sheet, stamp, went_status};
 
 use crate::giving::fill;
 use crate::status::{DONE, IDLE, NO_MEMORY, NOT_ON};

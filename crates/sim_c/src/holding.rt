@@ -1,7 +1,7 @@
 //! What is alike in all calls that hold something: how a handle is opened and closed, and how a call reaches what a handle holds.
 
-ghost use Rattle.std.specs.Prelude.{◌≡◌, None, option_map};
-ghost use Rattle.sim_c.specs.{Gives.mapped, Holding.close_status, Holding.is_none, Holding.Opens};
+ghost use Rattle.std.specs.Prelude.{None, option_map, ◌≡◌};
+ghost use Rattle.sim_c.specs.Gives.{close_status, is_none, mapped, Opens};
 
 use crate::Fault;
 use crate::handle::Handle;

@@ -1,9 +1,9 @@
 //! Looks at the state to which a game, or a client that is on, has come. Nothing that is held changes.
 
-ghost use Rattle.sim_c.specs.{Gives.stamp, GivesHeld.GivesLook, GivesHeld.GivesSheet, GivesHeld.GivesStamp, GivesHeld.sheet, Holding.Comes, Holding.Looks};
-ghost use Rattle.{sim_c.specs.Holding.there_is, sim_embed.specs.Answers.IsStamp, sim_embed.specs.Answers.IsStored, sim_embed.specs.Facts.entity_of};
-ghost use Rattle.{sim_held.specs.Calls.LooksAtClient, sim_held.specs.Clients.LooksAt, sim_report.specs.Show.show_text};
-ghost use Rattle.std.specs.Prelude.{◌≡◌, IfOk, map, pos, Some};
+ghost use Rattle.std.specs.Prelude.{IfOk, map, pos, Some, ◌≡◌};
+ghost use Rattle.sim_c.specs.Gives.{Comes, GivesLook, GivesSheet, GivesStamp, Looks, sheet, stamp, there_is};
+ghost use Rattle.{sim_embed.specs.Facts.IsStamp, sim_embed.specs.Facts.IsStored, sim_embed.specs.Facts.entity_of, sim_held.specs.Clients.LooksAt};
+ghost use Rattle.{sim_held.specs.Clients.LooksAtClient, sim_report.specs.Show.show_text};
 
 use crate::giving_held::{give_held_stamp, give_items, give_shown, give_state};
 use crate::handle::Handle;

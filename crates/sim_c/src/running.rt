@@ -1,8 +1,8 @@
 //! Any command of the program as one call, which keeps nothing. Its clause is that of the run of `sim_packed`, and how what that came to is
 //! put where C wants it.
 
-ghost use Rattle.{sim_c.specs.GivesRun.AnswersRun, sim_c.specs.GivesRun.GivesRun, sim_c.specs.GivesRun.papers};
-ghost use Rattle.sim_packed.specs.Run.{IsRun, IsUnrun};
+ghost use Rattle.sim_c.specs.GivesRun.{AnswersRun, GivesRun, papers};
+ghost use Rattle.sim_packed.specs.Files.{IsRun, IsUnrun};
 
 use crate::giving_run::give_run;
 use std::alloc::Global;

@@ -1,7 +1,7 @@
 //! How a call ends, as a number, and why it has no answer, as two numbers.
 
 ghost use Rattle.std.specs.Prelude.{◌≡◌};
-ghost use Rattle.sim_c.specs.Status.{fault_of as fault_by, state_code as state_code_of, status_of};
+ghost use Rattle.sim_c.specs.Gives.{fault_of as fault_by, state_code as state_code_of, status_of};
 
 use sim_codec::StateFault;
 use sim_embed::Refused;

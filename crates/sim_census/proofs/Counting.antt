@@ -1,13 +1,13 @@
 -- The numbers before and after a note.
-use Rattle.{sim_base.specs.Limits.IsLand, sim_base.specs.declared.setup.Land.Land, sim_census.specs.Counts.AreCounts, sim_census.specs.Counts.is_owned_by}
-use Rattle.std.proofs.{Common.subst, Common.sym, Common.◌∙◌, lemmas.Bool.cases_lt, lemmas.Bool.eq-eqb, lemmas.Bool.ne_eqb}
-use Rattle.std.proofs.Common.{◌≡◌, ℕ, ◌+◌, ◌<◌, ◌≤◌, Bool, true, false, cond, List, [], ◌∷◌, length, get_or, Some, None, All, Option, refl, ap, arith, inl, inr}
-use Rattle.std.proofs.lemmas.List.{get_or_past, Elements.All-head, Elements.All-tail, Elements.All-weaker, Sums.count_by-le-length, Sums.sum_by-cons}
-use Rattle.std.specs.Prelude.{IfSome, ◌==◌, MatchOption, count_by}
-use Rattle.sim_fact_lists.proofs.{OneFact.count_after, OneFact.noted_only, OneFact.OnlyAt, OneFact.part_is, Rising.found_all, Rising.rising}
-use Rattle.sim_fact_lists.specs.{Changes.id_in, Changes.one_if, Changes.part_noted, Changes.passes, Places.Holds, Places.HoldsIfAny, Places.IsHeld}
-use Rattle.sim_system.specs.{Answers.answer, Answers.population_among, Facts.kept_of, Facts.part_for, Notes.fact_with, Notes.noted, Notes.NoteFits, declared.note.Note.Note}
+use Rattle.sim_fact_lists.proofs.OneFact.{count_after, found_all, noted_only, OnlyAt, part_is, rising}
+use Rattle.sim_fact_lists.specs.Changes.{Holds, HoldsIfAny, id_in, IsHeld, one_if, part_noted, passes}
 use Rattle.sim_system.specs.declared.{ask.Answer.TheVariants.Number, ask.Ask.Ask, ask.Ask.TheVariants.Count, fact.Fact.Fact, kind.Kind.TheVariants.Census}
+use Rattle.sim_system.specs.{Meanings.answer, Meanings.population_among, Notes.NoteFits, Notes.fact_with, Notes.kept_of, Notes.noted, Notes.part_for}
+use Rattle.std.proofs.Common.{[], All, ap, arith, Bool, cond, false, get_or, inl, inr, length, List, None, Option, refl, Some, subst, sym, true, ℕ, ◌+◌, ◌<◌}
+use Rattle.std.proofs.lemmas.List.{Elements.All-head, Elements.All-tail, Elements.All-weaker, Sums.count_by-le-length, Sums.sum_by-cons, get_or_past}
+use Rattle.std.proofs.{Common.◌∙◌, Common.◌∷◌, Common.◌≡◌, Common.◌≤◌, lemmas.Bool.cases_lt, lemmas.Bool.eq-eqb, lemmas.Bool.ne_eqb}
+use Rattle.{sim_base.specs.Limits.IsLand, sim_census.specs.Owners.AreCounts, std.specs.Prelude.IfSome, std.specs.Prelude.MatchOption, std.specs.Prelude.◌==◌}
+use Rattle.{sim_base.specs.declared.setup.Land.Land, sim_census.specs.Owners.is_owned_by, sim_system.specs.declared.note.Note.Note, std.specs.Prelude.count_by}
 
 tally : (p : Fact → Bool) (f : Fact) (facts : List Fact) → count_by p (f ∷ facts) ≡ one_if (p f) + count_by p facts
 tally p f facts = sum_by-cons (λ (g : Fact). one_if (p g)) f facts

@@ -1,6 +1,7 @@
 -- What a list of entities and their owners stands for.
-use Rattle.std.specs.Prelude.{◌≡◌, ℕ, false, List, map, None}
-use Rattle.{sim_census.specs.declared.owned.Owned.Owned, sim_system.specs.Facts.origin, sim_system.specs.declared.fact.Fact.Fact}
+use Rattle.sim_census.specs.declared.owned.Owned.{Owned}
+use Rattle.sim_system.specs.{Meanings.population_among, Notes.origin, declared.fact.Fact.Fact}
+use Rattle.std.specs.Prelude.{Bool, false, List, map, None, slice_index, ℕ, ◌<◌, ◌==◌, ◌≡◌}
 
 -- the fact of an entity of which only its owner is told
 abbrev pub owner_fact : ℕ → ℕ → Fact
@@ -17,3 +18,13 @@ facts_in owned = map fact_in owned
 -- a fact is of this entity, and tells its owner and nothing else
 abbrev pub IsOfOwner : ℕ → Fact → Type 0
 IsOfOwner id fact = fact ≡ owner_fact id fact.owner
+
+-- The numbers that are kept.
+
+-- an entity is of this owner
+abbrev pub is_owned_by : ℕ → Fact → Bool
+is_owned_by owner fact = fact.owner == owner
+
+-- by owner, how many of these entities each of the nine owners has
+abbrev pub AreCounts : List Fact → List ℕ → Type 0
+AreCounts facts counts = (owner : ℕ) → owner < 9 → slice_index counts owner ≡ population_among facts owner

@@ -1,8 +1,8 @@
 //! The system: the owner of each entity, and the number of each owner's entities beside them.
 
-ghost use Rattle.{sim_census.specs.Counts.AreCounts, sim_census.specs.Owners.facts_in, sim_fact_lists.specs.Places.HoldsIfAny};
+ghost use Rattle.std.specs.Prelude.{[], length, None, slice_index, ◌≡◌};
 ghost use Rattle.sim_system.specs.declared.kind.Kind.TheVariants.{Census as CensusKind};
-ghost use Rattle.std.specs.Prelude.{◌≡◌, [], length, slice_index, None};
+ghost use Rattle.{sim_census.specs.Owners.AreCounts, sim_census.specs.Owners.facts_in, sim_fact_lists.specs.Changes.HoldsIfAny};
 
 use crate::counts::{counts_of, join, leave};
 use crate::owners::Owners;

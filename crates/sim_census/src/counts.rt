@@ -1,8 +1,8 @@
 //! How many entities each owner has: nine numbers, since a match has at most nine owners.
 
-ghost use Rattle.{sim_fact_lists.specs.Changes.one_if, sim_fact_lists.specs.Changes.passes, sim_system.specs.Answers.population_among};
-ghost use Rattle.std.specs.Prelude.{◌≡◌, ℕ, ◌+◌, ◌<◌, ◌≤◌, length, IfSome, slice_index};
-ghost use Rattle.sim_census.specs.Counts.{AreCounts, is_owned_by};
+ghost use Rattle.std.specs.Prelude.{IfSome, length, slice_index, ℕ, ◌+◌, ◌<◌, ◌≡◌, ◌≤◌};
+ghost use Rattle.{sim_census.specs.Owners.AreCounts, sim_census.specs.Owners.is_owned_by, sim_fact_lists.specs.Changes.one_if};
+ghost use Rattle.{sim_fact_lists.specs.Changes.passes, sim_system.specs.Meanings.population_among};
 
 use sim_system::Fact;
 

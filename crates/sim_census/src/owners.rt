@@ -1,10 +1,10 @@
 //! The owner of each entity, in a list by id: eight bytes an entity and not the fact that they stand for, so that little moves along
 //! the list when one leaves.
 
-ghost use Rattle.std.specs.Prelude.{◌≡◌, true, [], IfSome, IfOk, OnOk, OnErr, MatchResult};
+ghost use Rattle.std.specs.Prelude.{[], IfOk, IfSome, MatchResult, OnErr, OnOk, true, ◌≡◌};
 ghost use Rattle.sim_census.specs.Owners.{facts_in, IsOfOwner, owner_fact};
-ghost use Rattle.sim_fact_lists.specs.Places.{Ascend, Belongs, Stands, with_only};
-ghost use Rattle.sim_system.specs.{Facts.kept_of, Notes.fact_with, declared.kind.Kind.TheVariants.Census as CensusKind};
+ghost use Rattle.sim_fact_lists.specs.Changes.{Ascend, Belongs, Stands, with_only};
+ghost use Rattle.sim_system.specs.{Notes.fact_with, Notes.kept_of, declared.kind.Kind.TheVariants.Census as CensusKind};
 
 use crate::owned::Owned;
 use sim_base::{Fixed, OutOfMemory, Point};

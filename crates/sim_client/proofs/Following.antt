@@ -1,18 +1,19 @@
 -- A client that has a state follows one that has a past, through each step and each message.
-use Rattle.{sim_base.specs.Rows.row_of, sim_laws.proofs.Turning.after_counts_turns, sim_plain.proofs.Statuses.put_other, sim_plain.specs.Messages.carry_down}
-use Rattle.std.{proofs.Common.suc, proofs.Common.◌<◌, proofs.lemmas.Bool.ltb-false, specs.Prelude.min, specs.Prelude.max, specs.Prelude.ℤ}
-use Rattle.sim_base.specs.{Spelling.digest, Spelling.mark, Spelling.spelling, Turn.after, Turn.may_bend, Turn.Past, Turn.turns_in, declared.step.Event.Event}
-use Rattle.sim_client.proofs.Common.{arith, bent, Command, hears, is_client, Life, ltb-true, On, orders, PlayerCommand, put, Setup, State}
-use Rattle.sim_client.proofs.Common.{◌≡◌, ℕ, ◌+◌, Bool, true, false, ◌&&◌, List, [], ◌∷◌, ◌++◌, if◌then◌else◌, nat_lt, ◌==◌, Some, None, Option, refl, Act, ap}
-use Rattle.sim_client.specs.{LifeLaws.says_of, LifeLaws.shows_after, LifeLaws.StartingFollows, Lives.told, Lives.told_alone, Lives.told_with_done}
-use Rattle.sim_client.specs.LifeLaws.{BendingFollows, Follows, hearing_shown, HearingFollows, JoiningFollows, order_shown, OrderingFollows, PlayingFollows}
-use Rattle.sim_client.specs.Lives.{bends, hands_on, Joining, learns, loads, may_order, may_play, may_tell_done, Off, ordered, played, plays, refused, releases}
-use Rattle.sim_plain_session.specs.{Bytes.spelled, Players.IsPlayerOf, Players.Player}
-use Rattle.sim_plain_session.proofs.PlayerLemmas.{beginning_stands, bending_stands, learning_stands, playing_stands, same_mark, same_turn}
 use Rattle.sim_base.specs.declared.step.Event.TheVariants as event
 use Rattle.sim_plain.specs.declared.message.DownOf.TheVariants as down
 use Rattle.sim_plain.specs.declared.message.UpOf.TheVariants as up
 use Rattle.sim_plain_session.specs.Clients as plain
+use Rattle.sim_base.specs.{Rows.row_of, Spelling.digest, Spelling.mark, Spelling.spelling, Turn.Past, Turn.after, Turn.may_bend, Turn.turns_in}
+use Rattle.sim_client.proofs.Common.{Option, orders, PlayerCommand, put, refl, Setup, Some, State, true, ℕ, ◌&&◌, ◌++◌, ◌+◌, ◌==◌, ◌∷◌, ◌≡◌}
+use Rattle.sim_client.proofs.Common.{[], Act, ap, arith, bent, Bool, Command, false, hears, if◌then◌else◌, is_client, Life, List, ltb-true, nat_lt, None, On}
+use Rattle.sim_client.specs.Lives.{BendingFollows, bends, Follows, hands_on, hearing_shown, HearingFollows, Joining, JoiningFollows, learns, loads, may_order}
+use Rattle.sim_client.specs.Lives.{may_play, may_tell_done, Off, order_shown, ordered, OrderingFollows, played, PlayingFollows, plays, refused, releases}
+use Rattle.sim_client.specs.Lives.{shows_after, told, told_alone, told_with_done}
+use Rattle.sim_plain_session.proofs.PlayerLemmas.{beginning_stands, bending_stands, learning_stands, playing_stands, same_mark, same_turn}
+use Rattle.std.{proofs.Common.◌<◌, proofs.lemmas.Bool.ltb-false, specs.Prelude.max, specs.Prelude.min, specs.Prelude.ℤ}
+use Rattle.{sim_base.specs.declared.step.Event.Event, sim_client.specs.Lives.StartingFollows, sim_client.specs.Lives.says_of}
+use Rattle.{sim_laws.proofs.Turning.after_counts_turns, sim_plain.proofs.Calm.put_other, sim_plain.specs.Messages.carry_down}
+use Rattle.{sim_plain_session.specs.Players.IsPlayerOf, sim_plain_session.specs.Players.Player, sim_plain_session.specs.Sessions.spelled, std.proofs.Common.suc}
 
 pub starting_follows : StartingFollows
 starting_follows setup = beginning_stands setup (min setup.turns setup.delay) (min setup.turns setup.delay) []

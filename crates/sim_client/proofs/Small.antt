@@ -1,11 +1,10 @@
 -- What a client says has frames, where it orders or plays.
-use Rattle.{sim_base.specs.Limits.HasFewIds, sim_plain_session.specs.Players.Player, sim_wire.specs.Fits.IsSmallUp, std.proofs.lemmas.List.Elements.All-cons}
-use Rattle.{sim_base.specs.declared.command.Command.Command, sim_base.specs.declared.setup.Setup.Setup}
-use Rattle.std.proofs.Common.{suc, if◌then◌else◌, Bool, true, false, [], ◌∷◌, Some, None, All}
-use Rattle.std.proofs.lemmas.List.Elements.{All-nil}
-use Rattle.sim_client.specs.{LifeLaws.says_of, Lives.Joining, Lives.Life, Lives.may_order, Lives.may_play, Lives.may_tell_done, Lives.Off, Lives.On}
-use Rattle.sim_client.specs.Lives.{ordered, orders, played, plays, report_of, told, told_alone, told_with_done}
 use Rattle.sim_plain.specs.declared.message.UpOf.TheVariants as up
+use Rattle.sim_base.specs.{Limits.HasFewIds, declared.command.Command.Command, declared.setup.Setup.Setup}
+use Rattle.sim_client.specs.Lives.{Joining, Life, may_order, may_play, may_tell_done, Off, On, ordered, orders, played, plays, report_of, says_of, told}
+use Rattle.std.proofs.Common.{[], All, Bool, false, if◌then◌else◌, None, Some, suc, true, ◌∷◌}
+use Rattle.std.proofs.lemmas.List.Elements.{All-cons, All-nil}
+use Rattle.{sim_client.specs.Lives.told_alone, sim_client.specs.Lives.told_with_done, sim_plain_session.specs.Players.Player, sim_wire.specs.Reading.IsSmallUp}
 
 pub orders_small : (setup : Setup) (command : Command) (l : Life) → HasFewIds command → All IsSmallUp (says_of (orders setup command l))
 orders_small setup command Off few = All-nil IsSmallUp

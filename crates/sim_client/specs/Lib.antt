@@ -1,6 +1,4 @@
 pub mod Kept
-pub mod KnownWords
-pub mod Lives
-pub mod LifeLaws
 pub mod StageWords
+pub mod Lives
 pub mod ClientWords

@@ -1,11 +1,22 @@
 -- What a client keeps beside its board, and what it is with that board. Members of systems are passed as in the words of boards.
-use Rattle.sim_base.specs.{Limits.IsFrom, Limits.IsSetup, Validity.IsValid, declared.setup.Setup.Setup, declared.state.State.State}
-use Rattle.{sim_board.specs.BoardWords.IsWholeBy, sim_board.specs.declared.board.Board.Board, sim_client.specs.KnownWords.AreByPlayers}
-use Rattle.sim_client.specs.{KnownWords.known_in, Lives.Joining, Lives.Life, Lives.Off, Lives.On, declared.stage.Seat.Seat, declared.stage.Stage.Stage}
-use Rattle.{sim_plain_session.specs.Players.Player, sim_system.specs.Meanings.AreFed, sim_system.specs.Meanings.four, sim_system.specs.Meanings.HaveKinds}
-use Rattle.sim_system.specs.{Meanings.Meaning, Meanings.Systems, RigWords.systems_by, declared.kind.Kind.TheVariants.Ground, declared.system.System.Ghosts}
-use Rattle.std.specs.Prelude.{[], ◌≡◌, None, Option, Some, ℕ}
 use Rattle.sim_client.specs.declared.stage.Stage.TheVariants as stage
+use Rattle.sim_base.specs.declared.{command.PlayerCommand.PlayerCommand, setup.Setup.Setup, state.State.State}
+use Rattle.sim_client.specs.{Lives.Joining, Lives.Life, Lives.Off, Lives.On, declared.known.Known.Known, declared.stage.Seat.Seat, declared.stage.Stage.Stage}
+use Rattle.sim_system.specs.{Meanings.AreFed, Meanings.HaveKinds, Meanings.Meaning, Meanings.Systems, Meanings.four, RigWords.systems_by}
+use Rattle.std.specs.{BTreeMap.get, Ordering.nat_cmp, Prelude.All, Prelude.List, Prelude.None, Prelude.Option, Prelude.Some, Prelude.[], Prelude.unwrap_or}
+use Rattle.{sim_base.specs.Limits.IsFrom, sim_base.specs.Limits.IsSetup, sim_base.specs.Limits.IsValid, sim_board.specs.Boards.IsWholeBy}
+use Rattle.{sim_board.specs.declared.board.Board.Board, sim_laws.specs.TurnLaws.IsOrderOf, sim_plain_session.specs.Players.Player}
+use Rattle.{sim_system.specs.declared.kind.Kind.TheVariants.Ground, sim_system.specs.declared.system.System.Ghosts, std.specs.Prelude.ℕ, std.specs.Prelude.◌≡◌}
+
+-- What is known of a turn.
+
+-- the commands of a turn
+abbrev pub known_in : Known → ℕ → List PlayerCommand
+known_in known t = unwrap_or (get nat_cmp known.by_turn t) []
+
+-- players of the match gave the commands of each turn
+abbrev pub AreByPlayers : Setup → Known → Type 0
+AreByPlayers setup known = (t : ℕ) → All (IsOrderOf setup) (known_in known t)
 
 -- a seat beside a state
 abbrev pub player_at : State → Seat → Player

@@ -51,18 +51,6 @@ pub struct Digests {
     room: Vec<Row>,
 }
 
-// The digests of a state, made anew.
-fn make(setup: &Setup, state: &State) -> Both
-    requires short { All HasShortWay state.now.rows }
-    requires few { length state.now.rows < 2 ^ 32 }
-    ensures { AreDigests setup.now state.now result }
-{
-    Both {
-        whole: digest(setup, state),
-        quick: quick(setup, state),
-    }
-}
-
 // The room of a way that is kept no more.
 fn room_in(alloc: Global, old: Option<Row>) -> Vec<Point> {
     match old {
@@ -86,21 +74,8 @@ fn copy_way(room: Vec<Point>, way: &[Point]) -> Result<Points, OutOfMemory>
     Ok(Items::from_items(copied))
 }
 
-fn copy_motion(room: Vec<Point>, motion: &Motion) -> Result<Motion, OutOfMemory>
-    ensures { IfOk result (λ copied. copied ≡ motion.now) }
-{
-    match motion {
-        Motion::Still => Ok(Motion::Still),
-        Motion::Going { goal, way, whole } => Ok(Motion::Going {
-            goal: *goal,
-            way: copy_way(room, way.as_slice())?,
-            whole: *whole,
-        }),
-    }
-}
-
 // A copy of a motion, if there is one. Its way stands in the room of one that is kept no more.
-fn copy_any_motion(
+fn copy_motion(
     alloc: Global,
     old: Option<Row>,
     motion: &Option<Motion>,
@@ -108,7 +83,12 @@ fn copy_any_motion(
     ensures { IfOk result (λ copied. copied ≡ motion.now) }
 {
     match motion {
-        Some(motion) => Ok(Some(copy_motion(room_in(alloc, old), motion)?)),
+        Some(Motion::Going { goal, way, whole }) => Ok(Some(Motion::Going {
+            goal: *goal,
+            way: copy_way(room_in(alloc, old), way.as_slice())?,
+            whole: *whole,
+        })),
+        Some(Motion::Still) => Ok(Some(Motion::Still)),
         None => Ok(None),
     }
 }
@@ -122,7 +102,7 @@ fn copy_row(alloc: Global, old: Option<Row>, row: &Row) -> Result<Row, OutOfMemo
         at: row.at,
         owner: row.owner,
         health: row.health,
-        motion: copy_any_motion(alloc, old, &row.motion)?,
+        motion: copy_motion(alloc, old, &row.motion)?,
         attack: row.attack,
     })
 }
@@ -226,7 +206,10 @@ impl Digests {
         if let Some(both) = found(self.kept.as_slice(), setup, state) {
             return both;
         }
-        let both = make(setup, state);
+        let both = Both {
+            whole: digest(setup, state),
+            quick: quick(setup, state),
+        };
         let _ = self.keep(setup, state, both);
         both
     }

@@ -1,7 +1,7 @@
 //! The commands that a client knows of the turns to come. A turn is found by halves, and what was played is kept no more.
 
-ghost use Rattle.{sim_client.specs.KnownWords.known_in, sim_plain.specs.Functions.put};
-ghost use Rattle.std.specs.Prelude.{◌≡◌, [], ◌∷◌, ◌++◌, OnOk};
+ghost use Rattle.std.specs.Prelude.{[], OnOk, ◌++◌, ◌∷◌, ◌≡◌};
+ghost use Rattle.{sim_client.specs.StageWords.known_in, sim_plain.specs.Server.put};
 
 use sim_base::{Items, OutOfMemory, PlayerCommand};
 use std::alloc::Global;

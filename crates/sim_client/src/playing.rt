@@ -1,19 +1,19 @@
 //! What a client that is on does with its board, and what it keeps beside.
 
-ghost use Rattle.{sim_client.specs.StageWords.IsPlaying, sim_client.specs.StageWords.player_at, sim_plain_session.specs.Pasts.is_client as is_client_by};
-ghost use Rattle.std.specs.Prelude.{◌≡◌, ◌+◌, ◌^◌, ◌<◌, min, false, ◌&&◌, [], ◌∷◌, IfOk, OnOk, IsOk, nat_lt, None, Ok, Option};
-ghost use Rattle.sim_base.specs.{Limits.IsSetup, Spelling.mark as mark_in, Spelling.spelling, Validity.IsValid, declared.state.State.State as AnyState};
-ghost use Rattle.sim_board.specs.BoardWords.{AreKept, state_in, systems};
-ghost use Rattle.sim_client.specs.ClientWords.{Answers, did_in, HasDigest, NeedsNoMemory, Plays};
-ghost use Rattle.sim_client.specs.KnownWords.{AreByPlayers, known_in};
-ghost use Rattle.sim_client.specs.Lives.{hears, learns, may_play as may_play_by, On, orders as orders_by, played, releases, told};
 ghost use Rattle.sim_plain.specs.declared.message.UpOf.TheVariants as up;
+ghost use Rattle.std.specs.Prelude.{[], false, IfOk, IsOk, min, nat_lt, None, OnOk, Option, ◌&&◌, ◌+◌, ◌<◌, ◌^◌, ◌∷◌, ◌≡◌};
+ghost use Rattle.sim_base.specs.{Limits.IsSetup, Limits.IsValid, Spelling.mark as mark_in, Spelling.spelling, declared.state.State.State as AnyState};
+ghost use Rattle.sim_board.specs.Boards.{AreKept, state_in, systems};
+ghost use Rattle.sim_client.specs.ClientWords.{Answers, did_in, HasDigest, NeedsNoMemory, Plays};
+ghost use Rattle.sim_client.specs.Lives.{hears, may_play as may_play_by, On, orders as orders_by, played, told};
+ghost use Rattle.sim_client.specs.StageWords.{AreByPlayers, IsPlaying, known_in, player_at};
+ghost use Rattle.sim_plain_session.specs.Pasts.{is_client as is_client_by};
 
 use crate::did::{Did, Played, Ups, one, silent};
 use crate::digests::Digests;
 use crate::known::Known;
 use crate::stage::Seat;
-use sim_base::{Command, Items, OutOfMemory, Setup, State, Timed};
+use sim_base::{Command, Items, OutOfMemory, Setup, State};
 use sim_board::Board;
 use sim_codec::{mark, spell};
 use sim_orders::OrderTable;
@@ -111,8 +111,7 @@ fn tell(
     mark: [u8; 16],
 ) -> Result<Ups, OutOfMemory>
     requires mark { mark ≡ mark_in setup.now state.now }
-    requires limits { IsSetup setup.now }
-    requires valid { IsValid setup.now state.now }
+    requires small { state.now.turn + setup.now.delay < 2 ^ 32 }
     ensures says { IfOk result (λ ups. ups ≡ (told setup.now (player_at state.now seat.old)).says) }
     ensures life { OnOk result (On (player_at state.now seat.new) ≡ (told setup.now (player_at state.now seat.old)).life) }
     ensures known { seat.new.known ≡ seat.old.known }
@@ -212,42 +211,7 @@ fn may_learn(setup: &Setup, now: u32, turn: u32, player: u8) -> bool
     now < turn && is_client(setup, player)
 }
 
-// A command of a player of the match is known from now on, where its turn was not played.
-fn learn(
-    alloc: Global,
-    setup: &Setup,
-    state: &State,
-    seat: &mut Seat,
-    timed: Timed,
-) -> Result<Did, OutOfMemory>
-    requires players { AreByPlayers setup.now seat.old.known }
-    ensures answers { let old = player_at state.now seat.old in Answers (learns setup.now timed.turn timed.order old) (On old) result
-        (On (player_at state.now seat.new)) }
-    ensures idle { learns setup.now timed.turn timed.order (player_at state.now seat.old) ≡ None → IsOk result }
-    ensures players { OnOk result (AreByPlayers setup.now seat.new.known) }
-{
-    let Timed { turn, order } = timed;
-    if !may_learn(setup, state.turn, turn, order.player) {
-        return Ok(Did::Idle);
-    }
-    seat.known.learn(turn, order)?;
-    Ok(silent(alloc))
-}
-
-// More turns are released.
-fn release(alloc: Global, seat: &mut Seat, turn: u32) -> Did
-    ensures answers { (state : AnyState) → let old = player_at state seat.old in Answers (releases turn old) (On old) (Ok result)
-        (On (player_at state seat.new)) }
-    ensures known { seat.new.known ≡ seat.old.known }
-{
-    if turn <= seat.released {
-        return Did::Idle;
-    }
-    seat.released = turn;
-    silent(alloc)
-}
-
-/// Hears what the server says.
+/// Hears what the server says. A command of a player of the match is known from now on, where its turn was not played.
 pub fn heed(
     alloc: Global,
     setup: &Setup,
@@ -267,8 +231,16 @@ pub fn heed(
         Down::Ask { client } => Ok(Did::Done {
             up: hand_on(alloc, setup, state, client)?,
         }),
-        Down::Command { turn, order } => learn(alloc, setup, state, seat, Timed { turn, order }),
-        Down::Release { turn } => Ok(release(alloc, seat, turn)),
+        Down::Command { turn, order } if may_learn(setup, state.turn, turn, order.player) => {
+            seat.known.learn(turn, order)?;
+            Ok(silent(alloc))
+        }
+        Down::Release { turn } if seat.released < turn => {
+            seat.released = turn;
+            Ok(silent(alloc))
+        }
+        Down::Command { .. } => Ok(Did::Idle),
+        Down::Release { .. } => Ok(Did::Idle),
         Down::State { .. } => Ok(Did::Idle),
         Down::Notice { .. } => Ok(Did::Idle),
         Down::Refused { .. } => Ok(Did::Idle),

@@ -1,9 +1,10 @@
 -- The numbers of a valid state fit the bytes that they get, by the limits of its match.
-use Rattle.sim_codec.proofs.Common.{Any-from_list_any, arith, Arms, Both, eqb-true, get_or_from_slice_get, Going, has_health, inl, inr, ints, is_within, IsArms}
-use Rattle.sim_codec.proofs.Common.{IsInside, IsKnownRow, IsMotion, IsPoint, IsRawFrom, IsSetup, IsTemplate, IsValid, IsValidAim, IsValidMotion, IsValidRow}
-use Rattle.sim_codec.proofs.Common.{ltb-true, Motion, Point, recursion_from_All, Row, Setup, slice_get_within, State, Still, subst, Template, w32}
-use Rattle.sim_codec.proofs.Common.{slice_get, int_lt, int_le, FitsSigned, MatchOption, Some, None, All, Option, refl, Aim, AllByRecursion, and_parts}
-use Rattle.sim_codec.proofs.Common.{◌≡◌, ℕ, ◌*◌, ◌^◌, ◌<◌, ◌≤◌, ◌&&◌, ◌≢◌, ◌⊎◌, List, length, get_or, ℤ, pos, negsuc, ◌≤ℤ◌, is_some, IfSome, IsTrue, ◌==◌}
+use Rattle.sim_codec.proofs.Common.{Aim, All, AllByRecursion, and_parts, Any-from_list_any, ap, append_assoc, arith, Arms, Both, clock_bytes, eqb-true}
+use Rattle.sim_codec.proofs.Common.{FitsSigned, get_or, get_or_from_slice_get, Going, has_health, IfSome, inl, inr, int_le, int_lt, ints, is_some, is_within}
+use Rattle.sim_codec.proofs.Common.{IsArms, IsInside, IsKnownRow, IsMotion, IsPoint, IsRawFrom, IsSetup, IsTemplate, IsTrue, IsValid, IsValidAim, IsValidMotion}
+use Rattle.sim_codec.proofs.Common.{IsValidRow, length, length-append, length-u32_bytes, length-u64_bytes, List, ltb-true, MatchOption, Motion, negsuc, None}
+use Rattle.sim_codec.proofs.Common.{Option, Point, pos, recursion_from_All, refl, Row, Setup, slice_get, slice_get_within, Some, State, Still, subst, Template}
+use Rattle.sim_codec.proofs.Common.{u32_bytes, u64_bytes, w32, ℕ, ℤ, ◌&&◌, ◌*◌, ◌++◌, ◌<◌, ◌==◌, ◌^◌, ◌∙◌, ◌≡◌, ◌≢◌, ◌≤ℤ◌, ◌≤◌, ◌⊎◌}
 
 -- each number of a row fits, and no way is too long
 pub record RowFits (row : Row) : Type 0 where
@@ -93,3 +94,23 @@ pub rows_fit : (setup : Setup) → IsSetup setup → (s : State) → IsValid set
 rows_fit setup is s valid =
     recursion_from_All RowFits s.rows (λ k d lt. row_fits setup is s.rows s.next valid.ids valid.next.1 (get_or s.rows k d) (valid.ids k d lt).1
     (valid.rows k d lt))
+
+-- The clock has sixteen bytes: its numbers, one behind the other.
+
+pub length-clock_bytes : (s : State) → length (clock_bytes s) ≡ 16
+length-clock_bytes s =
+    omega (
+      arith,
+      length-append (u32_bytes s.turn) (u32_bytes s.next ++ u64_bytes s.word),
+      length-append (u32_bytes s.next) (u64_bytes s.word),
+      length-u32_bytes
+          s.turn,
+      length-u32_bytes s.next,
+      length-u64_bytes s.word,
+    )
+
+-- the clock and what follows it, number by number
+pub clock_regrouped : (s : State) (rest : List ℕ) → clock_bytes s ++ rest ≡ u32_bytes s.turn ++ (u32_bytes s.next ++ (u64_bytes s.word ++ rest))
+clock_regrouped s rest =
+    append_assoc (u32_bytes s.turn) (u32_bytes s.next ++ u64_bytes s.word) rest ∙ ap (λ (x : List ℕ). u32_bytes s.turn ++ x)
+    (append_assoc (u32_bytes s.next) (u64_bytes s.word) rest)

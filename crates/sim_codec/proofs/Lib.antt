@@ -5,14 +5,9 @@ pub mod Told
 pub mod Fits
 pub mod Back
 pub mod Standing
-pub mod Clock
 pub mod OfEntity
 pub mod ShortWays
 pub mod TakenRows
-pub mod FirstSection
-pub mod OldRows
-pub mod QuickPlaces
 pub mod GoodRows
 pub mod ToldRows
-pub mod SectionRows
 pub mod StoredWays

@@ -1,10 +1,10 @@
 -- What holds where bytes stand for a state.
-use Rattle.sim_codec.proofs.{Back.state_back, Common.version_of, Common.◌∙◌, OldRows.old_holds_none}
-use Rattle.sim_codec.proofs.Common.{bytes_eq, Option, Result, refl, ap, append_assoc, arith, bytes_eq-Decides, CanSay, clock_bytes, drop_at, false≢true}
-use Rattle.sim_codec.proofs.Common.{head_fault, HoldsNone, inl, inr, IsSetup, IsValid, le-ltb, length-append, old_spelling, One, RefusedFor, sections_by, Setup}
-use Rattle.sim_codec.proofs.Common.{spelled_by, spelling, StandsFor, start_bytes, State, state_at, StateFault, subst, sym, take_at, Two, u32_bytes, Version}
-use Rattle.sim_codec.proofs.Common.{◌≡◌, ℕ, Bool, true, false, cond, not, ltb, ◌⊎◌, ◌↔◌, List, ◌++◌, length, take, drop, is_some, IsTrue, Some, None, Err}
 use Rattle.sim_codec.specs.declared.fault.StateFault.TheVariants as faults
+use Rattle.sim_codec.proofs.Common.{Bool, cond, drop, inl, inr, List, ltb, None, not, One, refl, Some, subst, sym, take, true, Two, ℕ, ◌++◌, ◌↔◌, ◌∙◌, ◌≡◌, ◌⊎◌}
+use Rattle.sim_codec.proofs.Common.{ap, arith, CanSay, false, is_some, IsSetup, IsTrue, IsValid, le-ltb, length, Option, Result, Setup, State, take_at, Version}
+use Rattle.sim_codec.proofs.Common.{append_assoc, bytes_eq-Decides, clock_bytes, false≢true, head_fault, length-append, old_spelling, sections_by, start_bytes}
+use Rattle.sim_codec.proofs.{Back.state_back, Common.Err, Common.HoldsNone, Common.RefusedFor, Common.StandsFor, Common.StateFault, Common.bytes_eq}
+use Rattle.sim_codec.proofs.{Common.drop_at, Common.spelled_by, Common.spelling, Common.state_at, Common.u32_bytes, Common.version_of, TakenRows.old_holds_none}
 
 -- bytes spell a state by a version that can say all of it
 pub record Spells (setup : Setup) (bytes : List ℕ) (s : State) : Type 0 where

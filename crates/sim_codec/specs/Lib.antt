@@ -1,12 +1,8 @@
 pub mod Common
 pub mod Reading
-pub mod Entities
-pub mod Parts
 pub mod PartLaws
 pub mod Taken
 pub mod TakenLaws
-pub mod Stored
-pub mod Versions
 pub mod Loading
 pub mod Bits
-pub mod Quick
+pub mod Told

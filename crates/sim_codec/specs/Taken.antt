@@ -1,8 +1,8 @@
 -- What an entity has in each section, as it is read there by the version, the template and the id of the entity.
-use Rattle.{sim_bytes.specs.Reading.◌>>=◌, sim_bytes.specs.Reading.Reader, sim_codec.specs.Common.attack_at, sim_codec.specs.Common.entity_at}
-use Rattle.sim_codec.specs.Common.{has_stances, health_at, holds, Motion, moving_at, owner_at, Point, position_at, row_if, stance_at, Template, Version}
-use Rattle.{sim_codec.specs.Entities.id_in, sim_codec.specs.Entities.template_in, std.specs.List.cons_option}
-use Rattle.std.specs.Prelude.{[], if◌then◌else◌, ◌&&◌, ◌∷◌, Bool, is_some, List, None, Option, option_map, slice_get, Some, true, unwrap_or, ℕ, ℤ}
+use Rattle.sim_codec.specs.Common.{attack_at, entity_at, has_stances, health_at, holds, Motion, moving_at, owner_at, Point, position_at, row_if, stance_at}
+use Rattle.std.specs.Prelude.{[], Bool, if◌then◌else◌, is_some, List, None, Option, option_map, slice_get, Some, true, unwrap_or, ℕ, ℤ, ◌&&◌, ◌∷◌}
+use Rattle.{sim_bytes.specs.Reading.Reader, sim_bytes.specs.Reading.◌>>=◌, sim_codec.specs.Common.Template, sim_codec.specs.Common.Version}
+use Rattle.{sim_codec.specs.PartLaws.id_in, sim_codec.specs.PartLaws.template_in, std.specs.List.cons_option}
 
 -- what is read of a row that is wanted, under another id
 abbrev pub named_if : {X : Type 0} → Reader (ℕ × X) → Bool → ℕ → Reader (Option (ℕ × X))

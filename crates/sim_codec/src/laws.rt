@@ -1,9 +1,9 @@
 //! Theorems about the definitions, each the contract of a function that does nothing; and that what is spelled is taken,
 //! which is the contract of a function that asks.
 
-ghost use Rattle.std.specs.Prelude.{◌≡◌, ℕ, ◌^◌, ◌<◌, ◌↔◌, List, length, drop, IsOk, Some, None, All};
-ghost use Rattle.sim_codec.specs.{Loading.head_fault, Loading.StandsFor, Quick.HaveSamePlaces, Reading.state_at, Versions.HoldsNone};
-ghost use Rattle.sim_codec.specs.Common.{HasShortWay, IsSetup, IsState, IsValid, old_spelling, One, quick_bytes, Setup, spelling, State, Two};
+ghost use Rattle.std.specs.Prelude.{All, drop, IsOk, length, List, None, Some, ℕ, ◌<◌, ◌^◌, ◌↔◌, ◌≡◌};
+ghost use Rattle.sim_codec.specs.Common.{HasShortWay, IsSetup, IsState, IsValid, One, Setup, State, Two, old_spelling, quick_bytes, spelling};
+ghost use Rattle.sim_codec.specs.{Loading.HoldsNone, Loading.StandsFor, Loading.head_fault, Reading.HaveSamePlaces, Reading.state_at};
 
 use crate::{StateFault, stands};
 use sim_base::Setup;

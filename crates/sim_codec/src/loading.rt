@@ -1,9 +1,9 @@
 //! The state that bytes stand for. The reader is lax: what it read is tested as a state, and spelled again and compared,
 //! before any memory is taken. So it is enough that it reads back what is spelled.
 
-ghost use Rattle.std.specs.Prelude.{◌≡◌, ◌≢◌, ◌↔◌, take, drop, IfSome, IfOk, IfErr, IsOk, IsTrue, MatchResult, Some, None};
-ghost use Rattle.sim_codec.specs.{Common.IsSetup, Common.IsValid, Common.State, Versions.spelled_by, Versions.start_bytes};
-ghost use Rattle.sim_codec.specs.Loading.{head_fault, Loads, RefusedFor, Stands, StandsFor, version_of as version_in};
+ghost use Rattle.std.specs.Prelude.{drop, IfErr, IfOk, IfSome, IsOk, IsTrue, MatchResult, None, Some, take, ◌↔◌, ◌≡◌, ◌≢◌};
+ghost use Rattle.sim_codec.specs.Common.{IsSetup, IsValid, State};
+ghost use Rattle.sim_codec.specs.Loading.{head_fault, Judges, Loads, RefusedFor, spelled_by, Stands, StandsFor, start_bytes, version_of as version_in};
 
 use crate::fault::StateFault;
 use crate::good::is_valid_stored;
@@ -15,7 +15,7 @@ use sim_bytes::Version;
 use std::alloc::Global;
 
 // The magic "RSIM" and the number of the version.
-#[tactic(auto, unfolding(sim_base::specs::Bytes::u32_bytes))]
+#[tactic(auto, unfolding(sim_base::specs::Spelling::u32_bytes))]
 fn start_of_state(version: Version) -> [u8; 8]
     ensures { result ≡ start_bytes version }
 {
@@ -67,10 +67,7 @@ fn is_good(version: Version, setup: &Setup, stored: &Stored<'_>, bytes: &[u8]) -
 // The state for which the bytes stand, still in them.
 fn standing<'a>(setup: &'a Setup, bytes: &'a [u8]) -> Result<Stored<'a>, StateFault>
     requires { IsSetup setup.now }
-    ensures head { IfSome (head_fault setup.now bytes.now) (λ fault. result ≡ Err fault) }
-    ensures ok { IfOk result (StandsFor setup.now bytes.now) }
-    ensures err { IfErr result (RefusedFor setup.now bytes.now) }
-    ensures no_memory { result ≢ Err StateFault.OutOfMemory }
+    ensures { Judges setup.now bytes.now result }
 {
     let (version, rest) = behind_head(setup, bytes)?;
     let stored = stored_from(version, setup, rest)?;

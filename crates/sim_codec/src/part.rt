@@ -2,9 +2,9 @@
 //! of the others only the first is needed, which says the id and the template. The row gets the id that stands there, so
 //! that rows that do not belong together are not spelled as they stand.
 
-ghost use Rattle.std.specs.Prelude.{◌≡◌, ℕ, Bool, List, is_some, slice_get, Some, Option};
+ghost use Rattle.std.specs.Prelude.{Bool, is_some, List, Option, slice_get, Some, ℕ, ◌≡◌};
 ghost use Rattle.sim_bytes.specs.Reading.{Reader, Reads};
-ghost use Rattle.sim_codec.specs.{Common.Parts, Common.parts_at, Common.Row, Common.row_of, Common.Template, Common.Version, Common.Walk, Parts.IsLike};
+ghost use Rattle.sim_codec.specs.{Common.Parts, Common.Row, Common.Template, Common.Version, Common.Walk, Common.parts_at, Common.row_of, Reading.IsLike};
 
 use sim_base::Template;
 use sim_bytes::{
@@ -59,9 +59,7 @@ impl<'a> PartForm<'a> for EntityRow {
 
     ghost part_at = { entity_part_at };
 
-    fn is_of(_: &Template) -> bool
-        ensures { result ≡ true }
-    {
+    fn is_of(_: &Template) -> bool {
         true
     }
 
@@ -99,9 +97,7 @@ impl<'a> PartForm<'a> for PositionRow {
 
     ghost part_at = { position_part_at };
 
-    fn is_of(_: &Template) -> bool
-        ensures { result ≡ true }
-    {
+    fn is_of(_: &Template) -> bool {
         true
     }
 
@@ -139,9 +135,7 @@ impl<'a> PartForm<'a> for OwnerRow {
 
     ghost part_at = { owner_part_at };
 
-    fn is_of(_: &Template) -> bool
-        ensures { result ≡ true }
-    {
+    fn is_of(_: &Template) -> bool {
         true
     }
 
@@ -179,9 +173,7 @@ impl<'a> PartForm<'a> for HealthRow {
 
     ghost part_at = { health_part_at };
 
-    fn is_of(template: &Template) -> bool
-        ensures { result ≡ is_some template.now.health }
-    {
+    fn is_of(template: &Template) -> bool {
         template.health.is_some()
     }
 
@@ -259,9 +251,7 @@ impl<'a> PartForm<'a> for AttackRow {
 
     ghost part_at = { attack_part_at };
 
-    fn is_of(template: &Template) -> bool
-        ensures { result ≡ is_some template.now.arms }
-    {
+    fn is_of(template: &Template) -> bool {
         template.arms.is_some()
     }
 
@@ -299,9 +289,7 @@ impl<'a> PartForm<'a> for StanceRow {
 
     ghost part_at = { stance_part_at };
 
-    fn is_of(template: &Template) -> bool
-        ensures { result ≡ is_some template.now.arms }
-    {
+    fn is_of(template: &Template) -> bool {
         template.arms.is_some()
     }
 

@@ -2,6 +2,7 @@
 //! places alone.
 
 ghost use Rattle.std.specs.Prelude.{◌≡◌, ◌^◌, ◌<◌, length, OnOk, All};
+ghost use Rattle.sim_codec.specs.Told.{CanBeTold};
 ghost use Rattle.sim_codec.specs.Common.{HasShortWay, is_full_turn as is_full, mark as mark_of, quick as quick_of, quick_bytes, Tells};
 
 use crate::spelling::{digest, tell_clock};
@@ -19,8 +20,7 @@ pub fn is_full_turn(turn: u32) -> bool
 }
 
 fn tell_quick<K: ByteSink>(out: &mut K, state: &State) -> Result<(), K::Fault>
-    requires short { All HasShortWay state.now.rows }
-    requires few { length state.now.rows < 2 ^ 32 }
+    requires { CanBeTold state.now.rows }
     ensures { OnOk result (Tells K.holds out.old out.new (quick_bytes state.now)) }
 {
     tell_clock(out, state.turn, state.next, state.word)?;

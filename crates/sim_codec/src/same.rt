@@ -1,8 +1,8 @@
 //! Whether bytes are the spelling of the state that was read from them. The spelling is told into a comparison, section
 //! by section as the rows of each are taken, so that no memory is needed for it.
 
-ghost use Rattle.std.specs.{List.flat_map, List.filter_map, Prelude.◌≡◌, Prelude.◌↔◌, Prelude.OnOk, Prelude.IsTrue};
-ghost use Rattle.sim_codec.specs.{Common.section, Common.Tells, Versions.sections_by, Versions.spelled_by, Versions.stances};
+ghost use Rattle.std.specs.{List.filter_map, List.flat_map, Prelude.IsTrue, Prelude.OnOk, Prelude.◌↔◌, Prelude.◌≡◌};
+ghost use Rattle.sim_codec.specs.{Common.Tells, Common.section, Loading.sections_by, Loading.spelled_by, Loading.stances};
 
 use crate::part::PartForm;
 use crate::spelling::{tell_clock, tell_head};

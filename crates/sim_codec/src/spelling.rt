@@ -2,6 +2,7 @@
 //! the three cannot differ.
 
 ghost use Rattle.std.specs.Prelude.{◌≡◌, ◌^◌, ◌<◌, ◌++◌, length, IfOk, OnOk, codes, All};
+ghost use Rattle.sim_codec.specs.Told.{CanBeTold};
 ghost use Rattle.sim_codec.specs.Common.{digest as digest_of, HasShortWay, number_of, sections, spelling, Tells, u32_bytes, u64_bytes};
 
 use sim_base::{OutOfMemory, Row, Setup, State};
@@ -30,8 +31,7 @@ pub fn tell_clock<K: ByteSink>(out: &mut K, turn: u32, next: u32, word: u64) -> 
 }
 
 fn tell_sections<K: ByteSink>(out: &mut K, rows: &[Row]) -> Result<(), K::Fault>
-    requires short { All HasShortWay rows.now }
-    requires few { length rows.now < 2 ^ 32 }
+    requires { CanBeTold rows.now }
     ensures { OnOk result (Tells K.holds out.old out.new (sections rows.now)) }
 {
     tell_section::<K, EntityRow>(out, rows)?;
@@ -44,8 +44,7 @@ fn tell_sections<K: ByteSink>(out: &mut K, rows: &[Row]) -> Result<(), K::Fault>
 }
 
 fn tell_state<K: ByteSink>(out: &mut K, setup: &Setup, state: &State) -> Result<(), K::Fault>
-    requires short { All HasShortWay state.now.rows }
-    requires few { length state.now.rows < 2 ^ 32 }
+    requires { CanBeTold state.now.rows }
     ensures { OnOk result (Tells K.holds out.old out.new (spelling setup.now state.now)) }
 {
     tell_head(out, Version::Two, setup)?;

@@ -1,10 +1,11 @@
 //! A state that still stands in its bytes. Its rows are taken one after the other as often as they are wanted, and no
 //! memory with them.
 
-ghost use Rattle.{sim_bytes.specs.Reading.Reads, sim_codec.specs.Stored.rows_in, std.specs.List.filter_map, std.specs.List.flat_map};
-ghost use Rattle.std.specs.Prelude.{◌≡◌, ◌≤◌, ◌↔◌, [], ◌∷◌, map, length, is_some, IsTrue, MatchOption, MatchResult, OnOk, Some, None, option_map};
-ghost use Rattle.sim_codec.specs.{Common.has_health, Common.id_of as id_of_row, Common.IsStrictlyIncreasing, Common.row_of, Common.Tells};
-ghost use Rattle.sim_codec.specs.{Reading.rows_at, Reading.state_at, Taken.next_in, Taken.parts_in};
+ghost use Rattle.std.specs.List.{filter_map, flat_map};
+ghost use Rattle.std.specs.Prelude.{[], is_some, IsTrue, length, map, MatchOption, MatchResult, None, OnOk, option_map, Some, ◌↔◌, ◌∷◌, ◌≡◌, ◌≤◌};
+ghost use Rattle.sim_bytes.specs.Reading.{Reads};
+ghost use Rattle.sim_codec.specs.{Common.IsStrictlyIncreasing, Common.Tells, Common.has_health, Common.id_of as id_of_row, Common.row_of, Reading.rows_at};
+ghost use Rattle.sim_codec.specs.{Reading.rows_in, Reading.state_at, Taken.next_in, Taken.parts_in};
 
 use crate::entities::{are_ascending, count, entities_in, id_of, is_living, template_of};
 use crate::part::PartForm;
@@ -21,8 +22,8 @@ pub struct StoredRows<'a> {
 }
 
 impl<'a> Model for StoredRows<'a> {
-    ghost use Rattle.std.specs.Prelude.{◌≡◌, true, List, is_some};
-    ghost use Rattle.sim_codec.specs.{Common.Row, Reading.rows_at, Stored.rows_in};
+    ghost use Rattle.std.specs.Prelude.{is_some, List, true, ◌≡◌};
+    ghost use Rattle.sim_codec.specs.{Common.Row, Reading.rows_at, Reading.rows_in};
 
     ghost Value = { List Row };
 

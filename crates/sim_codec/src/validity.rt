@@ -67,26 +67,6 @@ fn is_valid_motion(setup: &Setup, motion: &Motion) -> bool
     }
 }
 
-fn is_alive(rows: &[Row], id: u32) -> bool
-    requires { IsStrictlyIncreasing (map id_of rows.now) }
-    ensures { result ≡ has_health rows.now id }
-{
-    match place_of(rows, id) {
-        None => false,
-        Some(at) => rows[at].health.is_some(),
-    }
-}
-
-fn is_valid_aim(rows: &[Row], id: u32, aim: Aim, arms: Arms) -> bool
-    requires { IsStrictlyIncreasing (map id_of rows.now) }
-    ensures { IsTrue result ↔ IsValidAim rows.now id aim arms }
-{
-    if aim.cooldown > arms.repeat {
-        return false;
-    }
-    aim.target == 0 || (aim.target != id && is_alive(rows, aim.target))
-}
-
 /// Whether a row has health where its template has, and then no more than it.
 pub fn has_valid_health(health: Option<Fixed>, most: Option<Fixed>) -> bool
     ensures { IsTrue result ↔ Both health most (λ health most. (pos 1 ≤ℤ health) × (health ≤ℤ most)) }
@@ -112,50 +92,73 @@ fn has_valid_motion(setup: &Setup, motion: &Option<Motion>, speed: Option<Fixed>
     }
 }
 
-fn has_valid_attack(rows: &[Row], id: u32, attack: Option<Aim>, arms: Option<Arms>) -> bool
-    requires { IsStrictlyIncreasing (map id_of rows.now) }
-    ensures { IsTrue result ↔ Both attack arms (IsValidAim rows.now id) }
-{
-    match attack {
-        None => arms.is_none(),
-        Some(aim) => match arms {
+// Rows of which the id of each is above that of the one before, so that each is found by halves.
+#[derive(Drop)]
+struct Ascending<'a> {
+    rows: &'a [Row],
+    ghost ascending: { IsStrictlyIncreasing (map id_of rows.now) },
+}
+
+impl Ascending<'_> {
+    fn is_alive(&self, id: u32) -> bool
+        ensures { result ≡ has_health self.now.rows.now id }
+    {
+        match place_of(self.rows, id) {
             None => false,
-            Some(arms) => is_valid_aim(rows, id, aim, arms),
-        },
-    }
-}
-
-fn is_valid_row(setup: &Setup, rows: &[Row], row: &Row, template: &Template) -> bool
-    requires { IsStrictlyIncreasing (map id_of rows.now) }
-    ensures { IsTrue result ↔ IsValidRow 1 setup.now rows.now row.now template.now }
-{
-    is_inside_setup(setup, row.at)
-        && row.owner <= setup.players
-        && has_valid_health(row.health, template.health)
-        && has_valid_motion(setup, &row.motion, template.speed)
-        && has_valid_attack(rows, row.id, row.attack, template.arms)
-}
-
-fn is_known_row(setup: &Setup, rows: &[Row], row: &Row) -> bool
-    requires { IsStrictlyIncreasing (map id_of rows.now) }
-    ensures { IsTrue result ↔ IsKnownRow 1 setup.now rows.now row.now }
-{
-    match setup.templates.as_slice().get(row.template as usize) {
-        None => false,
-        Some(template) => is_valid_row(setup, rows, row, template),
-    }
-}
-
-fn are_known(setup: &Setup, rows: &[Row]) -> bool
-    requires { IsStrictlyIncreasing (map id_of rows.now) }
-    ensures { IsTrue result ↔ All (IsKnownRow 1 setup.now rows.now) rows.now }
-{
-    for row in rows {
-        if !is_known_row(setup, rows, row) {
-            return false;
+            Some(at) => self.rows[at].health.is_some(),
         }
     }
-    true
+
+    fn is_valid_aim(&self, id: u32, aim: Aim, arms: Arms) -> bool
+        ensures { IsTrue result ↔ IsValidAim self.now.rows.now id aim arms }
+    {
+        if aim.cooldown > arms.repeat {
+            return false;
+        }
+        aim.target == 0 || (aim.target != id && self.is_alive(aim.target))
+    }
+
+    fn has_valid_attack(&self, id: u32, attack: Option<Aim>, arms: Option<Arms>) -> bool
+        ensures { IsTrue result ↔ Both attack arms (IsValidAim self.now.rows.now id) }
+    {
+        match attack {
+            None => arms.is_none(),
+            Some(aim) => match arms {
+                None => false,
+                Some(arms) => self.is_valid_aim(id, aim, arms),
+            },
+        }
+    }
+
+    fn is_valid_row(&self, setup: &Setup, row: &Row, template: &Template) -> bool
+        ensures { IsTrue result ↔ IsValidRow 1 setup.now self.now.rows.now row.now template.now }
+    {
+        is_inside_setup(setup, row.at)
+            && row.owner <= setup.players
+            && has_valid_health(row.health, template.health)
+            && has_valid_motion(setup, &row.motion, template.speed)
+            && self.has_valid_attack(row.id, row.attack, template.arms)
+    }
+
+    fn is_known_row(&self, setup: &Setup, row: &Row) -> bool
+        ensures { IsTrue result ↔ IsKnownRow 1 setup.now self.now.rows.now row.now }
+    {
+        match setup.templates.as_slice().get(row.template as usize) {
+            None => false,
+            Some(template) => self.is_valid_row(setup, row, template),
+        }
+    }
+
+    fn are_known(&self, setup: &Setup) -> bool
+        ensures { IsTrue result ↔ All (IsKnownRow 1 setup.now self.now.rows.now) self.now.rows.now }
+    {
+        for row in self.rows {
+            if !self.is_known_row(setup, row) {
+                return false;
+            }
+        }
+        true
+    }
 }
 
 /// Whether the numbers before the rows are those of a valid state.
@@ -203,5 +206,5 @@ pub fn is_valid(setup: &Setup, state: &State) -> bool
         && rows.len() <= MAX_ROWS
         && are_ascending(rows)
         && are_ids_below(rows, state.next)
-        && are_known(setup, rows)
+        && Ascending { rows }.are_known(setup)
 }

@@ -1,7 +1,15 @@
--- A step of the walk over the rows of two states: the entity that comes next, the rows behind it, and whether both lists
--- begin with one row.
-use Rattle.std.specs.Prelude.{◌≡◌, ℕ, min, List, [], ◌∷◌, if◌then◌else◌, ◌==◌, Some, None, find, Option}
-use Rattle.sim_base.specs.{Rows.row_of, declared.state.Row.Row, declared.state.State.State}
+-- A step of the walk over the rows of two states: what they need for it, the entity that comes next, the rows behind it, and
+-- whether both lists begin with one row.
+use Rattle.std.specs.Prelude.{◌≡◌, ℕ, min, List, [], ◌∷◌, All, if◌then◌else◌, map, ◌==◌, Some, None, find, Option}
+use Rattle.{sim_bytes.specs.Rows.HasShortWay, std.specs.List.Sorted.IsStrictlyIncreasing}
+use Rattle.sim_base.specs.{Rows.id_of, Rows.row_of, declared.state.Row.Row, declared.state.State.State}
+
+-- the ids of both states ascend, and no way in them is too long for its bytes to be told
+pub record AreComparable (left right : State) : Type 0 where
+  pub left_ascending : IsStrictlyIncreasing (map id_of left.rows)
+  pub left_short : All HasShortWay left.rows
+  pub right_ascending : IsStrictlyIncreasing (map id_of right.rows)
+  pub right_short : All HasShortWay right.rows
 
 -- the lesser of the first ids
 abbrev pub next_id : List Row → List Row → Option ℕ

@@ -1,8 +1,8 @@
 //! Theorems about the definition of a difference, each the contract of a function that does nothing.
 
-ghost use Rattle.std.specs.Prelude.{◌≡◌, ◌↔◌, Some, None};
-ghost use Rattle.sim_base.specs.{Limits.IsSetup, Spelling.spelling, Validity.IsValid, declared.setup.Setup.Setup, declared.state.State.State};
-ghost use Rattle.sim_diff.specs.{Difference.difference_of, Difference.HaveSameBits, Difference.IsLeastDifference, declared.place.Place.Place};
+ghost use Rattle.std.specs.Prelude.{None, Some, ◌↔◌, ◌≡◌};
+ghost use Rattle.sim_base.specs.{Limits.IsSetup, Limits.IsValid, Spelling.spelling, declared.setup.Setup.Setup, declared.state.State.State};
+ghost use Rattle.sim_diff.specs.{Difference.HaveSameBits, Difference.IsLeastDifference, Difference.difference_of, declared.place.Place.Place};
 
 /// What the definition answers is the least place over every number and every part, and the only one. It answers none
 /// exactly where the bytes of every part of every number are the same.

@@ -1,9 +1,9 @@
 //! The walk over the entities of two states: one pass over both lists of rows, which ascend by id.
 
-ghost use Rattle.{sim_diff.specs.Merge.AreRowsOf, sim_diff.specs.Merge.next_id, sim_diff.specs.Merge.rows_behind, sim_bytes.specs.Rows.HasShortWay};
+ghost use Rattle.{sim_base.specs.Rows.id_of, sim_bytes.specs.Rows.HasShortWay};
 ghost use Rattle.std.specs.{List.Sorted.IsStrictlyIncreasing, Prelude.◌≡◌, Prelude.◌↔◌, Prelude.map, Prelude.IfSome, Prelude.IsNone, Prelude.Some, Prelude.All};
-ghost use Rattle.sim_base.specs.Rows.{id_of};
 ghost use Rattle.sim_diff.specs.Difference.{difference_in, difference_of, HaveSameBits, IsLeastDifference};
+ghost use Rattle.sim_diff.specs.Merge.{AreComparable, AreRowsOf, next_id, rows_behind};
 
 use crate::place::{Place, first_difference};
 use crate::same::have_same_first;
@@ -39,10 +39,7 @@ fn next_difference(
     rights: &[Row],
     entity: u32,
 ) -> Option<Place>
-    requires left_ascending { IsStrictlyIncreasing (map id_of left.now.rows) }
-    requires left_short { All HasShortWay left.now.rows }
-    requires right_ascending { IsStrictlyIncreasing (map id_of right.now.rows) }
-    requires right_short { All HasShortWay right.now.rows }
+    requires comparable { AreComparable left.now right.now }
     requires lefts { AreRowsOf left.now lefts.now }
     requires rights { AreRowsOf right.now rights.now }
     requires next { next_id lefts.now rights.now ≡ Some entity }

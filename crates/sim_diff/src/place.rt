@@ -1,9 +1,8 @@
 //! A part of an entity in two states, and the first part of one entity that differs. It stands apart from the walk over
 //! the entities, which knows nothing of parts.
 
-ghost use Rattle.{sim_base.specs.Rows.id_of, sim_bytes.specs.Rows.HasShortWay};
-ghost use Rattle.std.specs.{List.Sorted.IsStrictlyIncreasing, Prelude.◌≡◌, Prelude.map, Prelude.All};
-ghost use Rattle.sim_diff.specs.Difference.{difference_in, is_different as is_different_place, place_at};
+ghost use Rattle.std.specs.Prelude.{◌≡◌};
+ghost use Rattle.sim_diff.specs.{Difference.difference_in, Difference.is_different as is_different_place, Difference.place_at, Merge.AreComparable};
 
 use sim_base::State;
 use sim_codec::{Bits, Part, bits_of};
@@ -31,10 +30,7 @@ pub struct Place {
 
 impl Place {
     fn of(left: &State, right: &State, entity: u32, part: Part) -> Place
-        requires left_ascending { IsStrictlyIncreasing (map id_of left.now.rows) }
-        requires left_short { All HasShortWay left.now.rows }
-        requires right_ascending { IsStrictlyIncreasing (map id_of right.now.rows) }
-        requires right_short { All HasShortWay right.now.rows }
+        requires { AreComparable left.now right.now }
         ensures { result ≡ place_at left.now right.now entity part }
     {
         Place {
@@ -54,10 +50,7 @@ impl Place {
 
 /// The first part of the entity that differs.
 pub fn first_difference(left: &State, right: &State, entity: u32) -> Option<Place>
-    requires left_ascending { IsStrictlyIncreasing (map id_of left.now.rows) }
-    requires left_short { All HasShortWay left.now.rows }
-    requires right_ascending { IsStrictlyIncreasing (map id_of right.now.rows) }
-    requires right_short { All HasShortWay right.now.rows }
+    requires { AreComparable left.now right.now }
     ensures { result ≡ difference_in left.now right.now entity }
 {
     PARTS

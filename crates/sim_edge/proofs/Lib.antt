@@ -1,4 +1,3 @@
 pub mod Tries
 pub mod Examples
-pub mod Counting
 pub mod Refusing

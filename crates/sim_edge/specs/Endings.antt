@@ -1,11 +1,10 @@
 -- How a talk ends, and the number of it.
-use Rattle.{sim_talk.specs.declared.fault.HearFault.HearFault, sim_talk.specs.declared.fault.TalkFault.TalkFault, sim_top.specs.Answers.status_number}
-use Rattle.std.specs.Prelude.{ℕ, ⊤, Ok, Err, Result}
-use Rattle.sim_edge.specs.declared.ending.Ending.{Ending}
 use Rattle.sim_talk.specs.declared.fault.HearFault.TheVariants as hear
 use Rattle.sim_talk.specs.declared.fault.TalkFault.TheVariants as fault
 use Rattle.sim_edge.specs.declared.ending.Ending.TheVariants as ending
 use Rattle.sim_top.specs.declared.status.Status.TheVariants as status
+use Rattle.{sim_edge.specs.declared.ending.Ending.Ending, sim_talk.specs.declared.fault.HearFault.HearFault, sim_talk.specs.declared.fault.TalkFault.TalkFault}
+use Rattle.{sim_top.specs.Reads.status_number, std.specs.Prelude.Err, std.specs.Prelude.Ok, std.specs.Prelude.Result, std.specs.Prelude.ℕ, std.specs.Prelude.⊤}
 
 -- a line was not heard
 abbrev pub unheard_as : HearFault → Ending

@@ -1,10 +1,9 @@
 -- What a run has done, by its words and by what the shelf holds, the sink was told and both have counted, before it and after.
-use Rattle.{sim_report.specs.Lines.usage_text, sim_store.specs.Files.File, sim_top.specs.Logs.TellsLogs}
-use Rattle.std.specs.{Io.KnownBytes.Appends, Prelude.◌≡◌, Prelude.ℕ, Prelude.List, Prelude.[], Prelude.IfSome, Prelude.Some, Prelude.None}
-use Rattle.sim_top.specs.{Films.Film, Films.OfFilm, Headline.Headline, Hosting.OfSession, Words.asked_by, Words.out_of, declared.status.Status.Status}
-use Rattle.sim_top.specs.{Given.GaveForWords, Readiness.IsFaultless, Readiness.IsFinal, Readiness.IsReady, Reads.HasEnded, Reads.IsUnfound, Reads.LacksMatch}
-use Rattle.sim_top.specs.{Parts.OfParts, Parts.PartsTold, Sights.TellsSights, Stocks.Balances, Stocks.OfStock, Territories.OfRealm, Territories.Territories}
-use Rattle.sim_top.specs.Answers.{Causes, IsSilent, IsUsageTold, KeepsAllBut, MayEnd, Meets, Scene}
+use Rattle.sim_top.specs.Headline.{Headline, OfFilm, OfParts, OfRealm, OfStock, PartsTold, TellsLogs, TellsSights, Territories}
+use Rattle.sim_top.specs.Reads.{Causes, GaveForWords, HasEnded, IsFaultless, IsFinal, IsReady, IsSilent, IsUnfound, IsUsageTold, KeepsAllBut, LacksMatch}
+use Rattle.sim_top.specs.{Outcome.OfSession, Reads.MayEnd, Reads.Meets, Reads.Scene, Words.asked_by, Words.out_of, declared.status.Status.Status}
+use Rattle.std.specs.{Io.KnownBytes.Appends, Prelude.IfSome, Prelude.List, Prelude.None, Prelude.Some, Prelude.[], Prelude.ℕ, Prelude.◌≡◌}
+use Rattle.{sim_report.specs.Lines.usage_text, sim_store.specs.Held.File, sim_top.specs.Headline.Balances, sim_top.specs.Headline.Film}
 
 -- a run of the words ended so: the clauses of the top call, but those of its rigs
 pub record Ran (words : List (List ℕ)) (before now : Scene) (status : Status) : Type 0 where

@@ -1,16 +1,16 @@
 -- What was told in a talk and how it ended, by what the words ask for and what the files hold.
-use Rattle.{sim_live.specs.Live.Lives, sim_report.specs.Refusals.refusal_text, sim_report.specs.declared.refusal.Refusal.TheVariants.List as OfList}
-use Rattle.{sim_live.specs.Relays.IsRelay, sim_live.specs.Relays.Relays, sim_live.specs.declared.relaying.RelayRules.RelayRules, sim_store.specs.Files.File}
-use Rattle.std.specs.Prelude.{◌≡◌, ℕ, ◌<◌, ◌≤◌, ◌⊎◌, List, [], ◌∷◌, length, ⊤, Ok, Err, Result}
-use Rattle.sim_base.specs.{Limits.IsFrom, declared.setup.Setup.Setup}
-use Rattle.sim_talk.specs.{Talks.Breaks, Talks.Extends, Talks.History, Talks.IsBeginning, Talks.Passed, Talks.told, declared.fault.TalkFault.TalkFault}
-use Rattle.sim_edge.specs.{Endings.ended_as, Words.Talk, Words.to_live, Words.to_relay, declared.ending.Ending.Ending}
-use Rattle.sim_top.specs.{Answers.GaveThenFailed, Answers.IsSilent, Outcome.Outcome, Outcome.session_match_in, Stops.ended_by, Stops.status_of}
-use Rattle.sim_top.specs.{Stops.stop_text, declared.status.Status.Status, declared.stop.Stop.Stop}
-use Rattle.sim_store.specs.{Counts.raised, Counts.Rose, declared.counts.Counts.Counts}
 use Rattle.sim_edge.specs.declared.ending.Ending.TheVariants as ending
 use Rattle.sim_top.specs.declared.status.Status.TheVariants as status
 use Rattle.sim_top.specs.declared.stop.Stop.TheVariants as stop
+use Rattle.sim_edge.specs.{Endings.ended_as, Words.Talk, Words.talk_of, Words.to_live, Words.to_relay, declared.asking.Asked.Asked}
+use Rattle.sim_live.specs.{Relays.IsRelay, Relays.Relays, declared.relaying.RelayRules.RelayRules}
+use Rattle.sim_talk.specs.{Talks.Extends, Talks.History, Talks.IsBeginning, Talks.Passed, Talks.told, declared.fault.TalkFault.TalkFault}
+use Rattle.sim_top.specs.{Outcome.Outcome, Outcome.session_match_in, Reads.GaveThenFailed, Reads.IsSilent, Stops.ended_by, Stops.status_of, Stops.stop_text}
+use Rattle.std.specs.Prelude.{List, Ok, Option, Result, [], length, option_map, ℕ, ⊤, ◌<◌, ◌∷◌, ◌≡◌, ◌≤◌, ◌⊎◌}
+use Rattle.{sim_base.specs.Limits.IsFrom, sim_base.specs.declared.setup.Setup.Setup, sim_edge.specs.declared.ending.Ending.Ending, sim_live.specs.Live.Lives}
+use Rattle.{sim_report.specs.Refusals.refusal_text, sim_report.specs.declared.refusal.Refusal.TheVariants.List as OfList, sim_store.specs.Held.File}
+use Rattle.{sim_store.specs.Shelf.Rose, sim_store.specs.Shelf.raised, sim_store.specs.declared.counts.Counts.Counts, sim_talk.specs.Talks.Breaks}
+use Rattle.{sim_top.specs.declared.status.Status.Status, sim_top.specs.declared.stop.Stop.Stop, std.specs.Prelude.Err, std.specs.Prelude.IfSome}
 
 -- the talk over a session of a match took place
 abbrev pub TalkedOver : Setup → ℕ → Ending → History → History → Type 0
@@ -67,6 +67,11 @@ TalksOf files (to_relay rules) ended old new = TalkedAs rules ended old new
 abbrev pub IsTalk : Talk → Type 0
 IsTalk (to_live game clients) = IsFrom 1 8 clients
 IsTalk (to_relay rules) = IsRelay rules
+
+-- what words ask for is this talk, if it is one, and its numbers are within their limits
+pub record AsksFor (wanted : Option Talk) (found : Option Asked) : Type 0 where
+  pub asked : option_map talk_of found ≡ wanted
+  pub limits : IfSome found (λ asked. IsTalk (talk_of asked))
 
 -- the talk with the server took place, where one is asked for, whatever the shelf holds
 abbrev pub OfRelay : Talk → Ending → History → History → Type 0

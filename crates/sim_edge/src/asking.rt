@@ -1,8 +1,8 @@
 //! The words of a talk, and how long a line of it may be.
 
 ghost use Rattle.std.specs.Prelude.{◌≡◌, ◌≤◌, IfSome, option_map};
-ghost use Rattle.sim_edge.specs.{Talked.IsTalk, Words.asked_of_four, Words.asked_of_two, Words.most_in, Words.number_in, Words.talk_by, Words.talk_of};
-ghost use Rattle.sim_top.specs.Words.{words_of};
+ghost use Rattle.sim_edge.specs.{Talked.AsksFor, Talked.IsTalk, Words.asked_of_four, Words.asked_of_two, Words.most_in, Words.number_in, Words.talk_by};
+ghost use Rattle.{sim_edge.specs.Words.talk_of, sim_top.specs.Words.words_of};
 
 use sim_live::RelayRules;
 use sim_top::turn_of;
@@ -43,8 +43,7 @@ pub fn asked_of(words: &[String]) -> Option<Asked<'_>>
 }
 
 fn live_of<'w>(command: &str, game: &'w str, clients: &str) -> Option<Asked<'w>>
-    ensures asked { option_map talk_of result ≡ asked_of_two command.now game.now clients.now }
-    ensures limits { IfSome result (λ asked. IsTalk (talk_of asked)) }
+    ensures { AsksFor (asked_of_two command.now game.now clients.now) result }
 {
     if command != "live" {
         return None;
@@ -60,8 +59,7 @@ fn relay_of<'w>(
     delay: &str,
     turns: &str,
 ) -> Option<Asked<'w>>
-    ensures asked { option_map talk_of result ≡ asked_of_four command.now clients.now active.now delay.now turns.now }
-    ensures limits { IfSome result (λ asked. IsTalk (talk_of asked)) }
+    ensures { AsksFor (asked_of_four command.now clients.now active.now delay.now turns.now) result }
 {
     if command != "relay" {
         return None;

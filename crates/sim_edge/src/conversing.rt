@@ -1,10 +1,10 @@
 //! The top call of talks: from the words to how it ended. The match is read before anything is told.
 
-ghost use Rattle.{sim_base.specs.Limits.IsSetup, sim_client.specs.StageWords.AreCleared, sim_edge.specs.Endings.ended_as};
-ghost use Rattle.sim_edge.specs.Talked.{IsRefusal, IsTalk, OfRelay, ReadsFor, Refused, ShelfCauses, TalkCauses, TalkedOver, TalksOf};
-ghost use Rattle.{sim_edge.specs.Words.talk_of, sim_system.specs.Meanings.HaveKinds, sim_system.specs.RigWords.systems_of, sim_talk.specs.Talks.Tells};
+ghost use Rattle.std.specs.Prelude.{[], All, IfOk, IfSome, length, vec_capacity, ◌≡◌, ◌≤◌};
+ghost use Rattle.sim_edge.specs.{Endings.ended_as, Talked.IsRefusal, Talked.IsTalk, Talked.OfRelay, Talked.ReadsFor, Talked.Refused, Talked.ShelfCauses};
 ghost use Rattle.sim_top.specs.Stops.{CausesOf, status_of, stop_text as text_of_stop};
-ghost use Rattle.std.specs.Prelude.{[], ◌≡◌, ◌≤◌, All, IfOk, IfSome, length, vec_capacity};
+ghost use Rattle.{sim_base.specs.Limits.IsSetup, sim_edge.specs.Talked.TalkCauses, sim_edge.specs.Talked.TalksOf, sim_edge.specs.Words.talk_of};
+ghost use Rattle.{sim_system.specs.Meanings.HaveKinds, sim_system.specs.RigWords.systems_of, sim_talk.specs.Talks.Tells, sim_top.specs.Stops.AreFresh};
 
 use crate::asking::Asked;
 use crate::ending::Ending;
@@ -35,9 +35,7 @@ pub fn converse<S: Shelf, T: Talk>(
     orders: &OrderTable,
 ) -> Talked
     requires limits { IsTalk (talk_of asked) }
-    requires eight { length rigs.items ≡ 8 }
-    requires kinds { All (λ r. HaveKinds (systems_of r ⟦<dyn System as System>⟧)) rigs.items }
-    requires cleared { All (λ r. AreCleared (systems_of r ⟦<dyn System as System>⟧)) rigs.items }
+    requires fresh { AreFresh ⟦<dyn System as System>⟧ rigs.items }
     ensures talks { IfSome (S.held shelf.old) (λ files. TalksOf files (talk_of asked.entry) result.ending (T.history talk.old) (T.history talk.new)) }
     ensures settled { (T.history talk.old).kept ≡ [] → (T.history talk.new).kept ≡ [] }
     ensures relays { OfRelay (talk_of asked.entry) result.ending (T.history talk.old) (T.history talk.new) }
@@ -51,7 +49,13 @@ pub fn converse<S: Shelf, T: Talk>(
     match asked {
         Asked::Live { game, clients } => {
             match session_match(alloc, shelf, game, clients) {
-                Ok(setup) => talk_live(alloc, &setup, clients, talk, rigs, orders),
+                Ok(setup) => {
+                    let (outcome, rigs) = live(alloc, &setup, orders, clients, talk, rigs);
+                    Talked {
+                        ending: ended(outcome),
+                        rigs,
+                    }
+                }
                 Err(stop) => Talked {
                     ending: refused(alloc, &stop, talk),
                     rigs,
@@ -83,32 +87,6 @@ fn session_match<'w, S: Shelf>(
         return Err(Stop::ListRefused { index: 0 });
     }
     Ok(setup)
-}
-
-fn talk_live<T: Talk>(
-    alloc: Global,
-    setup: &Setup,
-    clients: u8,
-    talk: &mut T,
-    rigs: Vec<Rig>,
-    orders: &OrderTable,
-) -> Talked
-    requires limits { IsSetup setup.now }
-    requires clients { clients ≤ setup.now.players }
-    requires eight { length rigs.items ≡ 8 }
-    requires kinds { All (λ r. HaveKinds (systems_of r ⟦<dyn System as System>⟧)) rigs.items }
-    requires cleared { All (λ r. AreCleared (systems_of r ⟦<dyn System as System>⟧)) rigs.items }
-    ensures talked { TalkedOver setup.now clients result.ending (T.history talk.old) (T.history talk.new) }
-    ensures settled { (T.history talk.new).kept ≡ [] }
-    ensures kinds { All (λ r. HaveKinds (systems_of r ⟦<dyn System as System>⟧)) result.rigs.items }
-    ensures eight { length result.rigs.items ≡ 8 }
-    ensures room { vec_capacity result.rigs ≡ vec_capacity rigs }
-{
-    let (outcome, rigs) = live(alloc, setup, orders, clients, talk, rigs);
-    Talked {
-        ending: ended(outcome),
-        rigs,
-    }
 }
 
 // How a talk ended.

@@ -1,7 +1,7 @@
 //! The handlers of deeds that the program registers. They stand here since a handler is a function of the crate that stores it.
 
 ghost use Rattle.std.specs.Prelude.{◌≡◌};
-ghost use Rattle.sim_stock.specs.Deeds.{deed as deed_of, IsAsked};
+ghost use Rattle.sim_stock.specs.PaidTurns.{deed as deed_of, IsAsked};
 
 use sim_stock::{Deed, Stocks, barter, tribute};
 

@@ -1,10 +1,9 @@
 //! The run with a handler for each kind of command and of deed, over any shelf and any sink. The program calls it with the real ones, and
 //! the tests with those in memory.
 
-ghost use Rattle.{sim_client.specs.StageWords.AreCleared, sim_orders.specs.Orders.Fulfils, sim_orders.specs.Orders.IsGiven, sim_orders.specs.Orders.kind_of};
-ghost use Rattle.{sim_system.specs.Meanings.HaveKinds, sim_system.specs.RigWords.systems_of, sim_top.specs.Answers.scene, sim_top.specs.Words.words_of};
-ghost use Rattle.std.specs.Prelude.{◌≡◌, length, IfOk, OnErr, All};
-ghost use Rattle.sim_edge.specs.Run.{Ran};
+ghost use Rattle.std.specs.Prelude.{IfOk, OnErr, ◌≡◌};
+ghost use Rattle.sim_top.specs.{Reads.scene, Stops.AreFresh, Words.words_of};
+ghost use Rattle.{sim_edge.specs.Run.Ran, sim_orders.specs.Orders.Fulfils, sim_orders.specs.Orders.IsGiven, sim_orders.specs.Orders.kind_of};
 
 use crate::deeds::{bartered, tributed};
 use sim_base::{Changes, OutOfMemory};
@@ -32,9 +31,7 @@ pub fn run_with<S: Shelf, K: Sink>(
     out: &mut K,
     rigs: Vec<Rig>,
 ) -> Result<Status, OutOfMemory>
-    requires eight { length rigs.items ≡ 8 }
-    requires kinds { All (λ r. HaveKinds (systems_of r ⟦<dyn System as System>⟧)) rigs.items }
-    requires cleared { All (λ r. AreCleared (systems_of r ⟦<dyn System as System>⟧)) rigs.items }
+    requires { AreFresh ⟦<dyn System as System>⟧ rigs.items }
     ensures ran { IfOk result (λ status. Ran (words_of words.now)
         (scene (S.held shelf.old) (K.told out.old) (S.counts shelf.old) (K.faults out.old))
         (scene (S.held shelf.new) (K.told out.new) (S.counts shelf.new) (K.faults out.new))

@@ -2,10 +2,10 @@
 //! answers to each call has a name, and so have the bytes that a file has left and those that it holds. The shelf is held to
 //! these: it asks for the file that it was asked for, hands on what the system answers, and reads and writes each byte once.
 
-ghost use Rattle.std.specs.Io.{ReadsAtMost, KnownBytes.IsAtEnd, KnownBytes.ReadConsumes, KnownBytes.WriteAppends};
-ghost use Rattle.std.specs.Prelude.{◌≡◌, [], is_some, is_ok, OnOk, IsOk, IsTrue, None, Option};
+ghost use Rattle.std.specs.{Io.KnownBytes.IsAtEnd, Prelude.◌≡◌, Prelude.[], Prelude.is_some, Prelude.is_ok, Prelude.OnOk, Prelude.IsOk, Prelude.IsTrue};
+ghost use Rattle.std.specs.Prelude.{None, Option};
 ghost use Rattle.sim_edge.specs.{Answers.Closes, Answers.Makes, Answers.Opens, Answers.Reads, Answers.WritesMade, Known.known_of};
-ghost use Rattle.sim_store.specs.{Pieces.TakesSome, Shelf.MakeCounts, Shelf.OpenCounts, Shelf.opens, Shelf.ReadCounts, Shelf.WriteCounts};
+ghost use Rattle.sim_store.specs.{Pieces.Adds, Pieces.Moves, Shelf.MakeCounts, Shelf.OpenCounts, Shelf.opens, Shelf.ReadCounts, Shelf.WriteCounts};
 
 use crate::again::read_again;
 use crate::faults::{not_made, not_opened};
@@ -70,12 +70,10 @@ impl<F: FileSystem> Shelf for FileShelf<F> {
     fn read(&mut self, into: &mut [u8]) -> Result<usize, Failed>
         requires { IsTrue (is_some self.old.reading) }
         ensures answer { Reads F.File.read_gives self.old.reading into.old result self.new.reading into.new }
-        ensures bound { ReadsAtMost result into.new }
-        ensures bytes { ReadConsumes (known_of F.File.left self.old.reading) (known_of F.File.left self.new.reading) result into.new }
+        ensures moves { Moves result into.new (known_of F.File.left self.old.reading) (known_of F.File.left self.new.reading) }
         ensures opened { IsTrue (is_some self.new.reading) }
         ensures counts { ReadCounts result self.old.counts self.new.counts }
-        ensures making { self.new.making ≡ self.old.making }
-        ensures files { self.new.files ≡ self.old.files }
+        ensures stays { self.new ≡ record self.old { reading = self.new.reading; counts = self.new.counts } }
     {
         let Some(file) = &mut self.reading else {
             unreachable!()
@@ -114,12 +112,10 @@ impl<F: FileSystem> Shelf for FileShelf<F> {
     fn write(&mut self, piece: &[u8]) -> Result<usize, Failed>
         requires { IsTrue (is_some self.old.making) }
         ensures answer { WritesMade F.File.write_gives piece.now self.old.making result self.new.making }
-        ensures takes { TakesSome result piece.now }
-        ensures made { WriteAppends (known_of F.File.holds self.old.making) (known_of F.File.holds self.new.making) result piece.now }
+        ensures adds { Adds result piece.now (known_of F.File.holds self.old.making) (known_of F.File.holds self.new.making) }
         ensures making { IsTrue (is_some self.new.making) }
         ensures counts { WriteCounts result self.old.counts self.new.counts }
-        ensures reading { self.new.reading ≡ self.old.reading }
-        ensures files { self.new.files ≡ self.old.files }
+        ensures stays { self.new ≡ record self.old { making = self.new.making; counts = self.new.counts } }
     {
         let Some(file) = &mut self.making else {
             unreachable!()
@@ -136,9 +132,7 @@ impl<F: FileSystem> Shelf for FileShelf<F> {
         requires { IsTrue (is_some self.old.making) }
         ensures answer { Closes F.close_gives self.old.files self.old.making self.new.files }
         ensures ok { IsOk result }
-        ensures making { self.new.making ≡ None }
-        ensures counts { self.new.counts ≡ self.old.counts }
-        ensures reading { self.new.reading ≡ self.old.reading }
+        ensures closed { self.new ≡ record self.old { files = self.new.files; making = None } }
     {
         let Some(file) = self.making.take() else {
             unreachable!()

@@ -1,6 +1,6 @@
 //! The sink of a writer, be it standard output or another, and a count of what failed.
 
-ghost use Rattle.{sim_edge.specs.Answers.Writes, sim_store.specs.Pieces.TakesSome, sim_store.specs.Sink.SinkCounts, std.specs.Io.KnownBytes.WriteAppends};
+ghost use Rattle.{sim_edge.specs.Answers.Writes, sim_store.specs.Pieces.Adds, sim_store.specs.Sink.SinkCounts};
 
 use crate::again::write_again;
 use crate::device::Writable;
@@ -10,8 +10,7 @@ use sim_store::{Failed, Sink, one_more};
 /// One write of a piece, made again where a signal interrupts it, and how much of the piece it took.
 pub fn write_to<W: Writable>(file: &mut W, piece: &[u8]) -> Result<usize, Failed>
     ensures answer { Writes W.write_gives piece.now file.old result file.new }
-    ensures takes { TakesSome result piece.now }
-    ensures bytes { WriteAppends (W.holds file.old) (W.holds file.new) result piece.now }
+    ensures adds { Adds result piece.now (W.holds file.old) (W.holds file.new) }
 {
     taken(write_again(file, piece), piece)
 }
@@ -38,8 +37,7 @@ impl<W: Writable + Drop> Sink for OutSink<W> {
     /// Writes to the writer, and again where a signal interrupts that.
     fn write(&mut self, piece: &[u8]) -> Result<usize, Failed>
         ensures answer { Writes W.write_gives piece.now self.old.writer result self.new.writer }
-        ensures takes { TakesSome result piece.now }
-        ensures told { WriteAppends (W.holds self.old.writer) (W.holds self.new.writer) result piece.now }
+        ensures adds { Adds result piece.now (W.holds self.old.writer) (W.holds self.new.writer) }
         ensures counts { SinkCounts result self.old.faults self.new.faults }
     {
         let answer = write_to(&mut self.writer, piece);

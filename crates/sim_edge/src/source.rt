@@ -1,6 +1,6 @@
 //! The input of a reader, be it standard input or another, and a count of what failed.
 
-ghost use Rattle.{sim_edge.specs.Answers.ReadsOnce, sim_store.specs.Sink.SinkCounts, std.specs.Io.ReadsAtMost, std.specs.Io.KnownBytes.ReadConsumes};
+ghost use Rattle.{sim_edge.specs.Answers.ReadsOnce, sim_store.specs.Pieces.Moves, sim_store.specs.Sink.SinkCounts};
 
 use crate::again::read_again;
 use crate::device::Readable;
@@ -29,8 +29,7 @@ impl<R: Readable + Drop> Source for InSource<R> {
     /// Reads from the reader, and again where a signal interrupts that.
     fn read(&mut self, into: &mut [u8]) -> Result<usize, Failed>
         ensures answer { ReadsOnce R.read_gives self.old.reader into.old result self.new.reader into.new }
-        ensures bound { ReadsAtMost result into.new }
-        ensures bytes { ReadConsumes (R.left self.old.reader) (R.left self.new.reader) result into.new }
+        ensures moves { Moves result into.new (R.left self.old.reader) (R.left self.new.reader) }
         ensures counts { SinkCounts result self.old.faults self.new.faults }
     {
         match read_again(&mut self.reader, into) {

@@ -1,9 +1,8 @@
 //! A talk with a planner for each kind of command, over any shelf and any talk, and the number that the process then ends with.
 
-ghost use Rattle.{sim_client.specs.StageWords.AreCleared, sim_system.specs.Meanings.HaveKinds, sim_system.specs.RigWords.systems_of};
-ghost use Rattle.{sim_edge.specs.Process.talk_number_of, sim_edge.specs.Words.talk_of};
-ghost use Rattle.sim_edge.specs.Talked.{IsTalk, OfRelay, ShelfCauses, TalkCauses, TalksOf};
-ghost use Rattle.std.specs.Prelude.{◌≡◌, [], length, IfSome, IfOk, OnErr, All};
+ghost use Rattle.std.specs.Prelude.{[], IfOk, IfSome, OnErr, ◌≡◌};
+ghost use Rattle.sim_edge.specs.{Process.talk_number_of, Talked.IsTalk, Talked.OfRelay, Talked.ShelfCauses, Talked.TalkCauses, Talked.TalksOf, Words.talk_of};
+ghost use Rattle.sim_top.specs.Stops.{AreFresh};
 
 use crate::asking::Asked;
 use crate::conversing::converse;
@@ -24,9 +23,7 @@ pub fn talk_with<S: Shelf, T: Talk>(
     other: &mut T,
     rigs: Vec<Rig>,
 ) -> Result<Ending, OutOfMemory>
-    requires eight { length rigs.items ≡ 8 }
-    requires kinds { All (λ r. HaveKinds (systems_of r ⟦<dyn System as System>⟧)) rigs.items }
-    requires cleared { All (λ r. AreCleared (systems_of r ⟦<dyn System as System>⟧)) rigs.items }
+    requires fresh { AreFresh ⟦<dyn System as System>⟧ rigs.items }
     requires limits { IsTalk (talk_of asked) }
     ensures talked { IfOk result
         (λ ending. IfSome (S.held shelf.old) (λ files. TalksOf files (talk_of asked.entry) ending (T.history other.old) (T.history other.new))) }

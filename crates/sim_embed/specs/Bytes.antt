@@ -1,7 +1,6 @@
 -- What bytes that are handed in stand for: a match, a state of it, or two.
-use Rattle.std.specs.Prelude.{◌≡◌, ℕ, List, Ok}
 use Rattle.{sim_base.specs.declared.setup.Setup.Setup, sim_base.specs.declared.state.State.State, sim_codec.specs.Loading.StandsFor}
-use Rattle.sim_setup.specs.Setups.{setup_of}
+use Rattle.{sim_setup.specs.Setups.setup_of, std.specs.Prelude.List, std.specs.Prelude.Ok, std.specs.Prelude.ℕ, std.specs.Prelude.◌≡◌}
 
 -- bytes are a match of which this holds
 abbrev pub OfMatch : List ℕ → (Setup → Type 0) → Type 0

@@ -1,8 +1,11 @@
 -- The numbers of a match, and a row of a state as a record of plain numbers.
-use Rattle.std.specs.Prelude.{ℕ, Bool, true, false, min, length, ℤ, pos, if◌then◌else◌, Some, None, Option}
-use Rattle.sim_base.specs.declared.{place.Point.Point, setup.Setup.Setup}
-use Rattle.sim_base.specs.declared.state.{Aim.Aim, Motion.Motion, Motion.TheVariants.Going, Motion.TheVariants.Still, Row.Row}
-use Rattle.sim_embed.specs.declared.plain.{Entity.Entity, Facts.Facts}
+use Rattle.sim_base.specs.declared.state.{Motion.TheVariants.Going, Motion.TheVariants.Still, Row.Row, State.State}
+use Rattle.sim_base.specs.declared.{command.PlayerCommand.PlayerCommand, place.Point.Point, setup.Setup.Setup, state.Aim.Aim, state.Motion.Motion}
+use Rattle.sim_base.specs.{Limits.IsSetup, Limits.IsValid, Spelling.digest, Spelling.spelling, Turn.first_state, Turn.turn}
+use Rattle.sim_embed.specs.{Bytes.OfMatch, Bytes.OfState, Causes.orders_of, declared.plain.Entity.Entity, declared.plain.Facts.Facts}
+use Rattle.std.specs.Prelude.{List, None, Ok, Option, Some, false, if◌then◌else◌, length, min, pos, true, ℕ, ℤ, ◌<◌, ◌≡◌}
+use Rattle.{sim_diff.specs.Difference.difference_of, sim_diff.specs.declared.place.Place.Place, sim_embed.specs.declared.stored.Stamp.Stamp}
+use Rattle.{sim_embed.specs.declared.stored.Stored.Stored, sim_laws.specs.TurnLaws.IsOrderOf, std.specs.Prelude.All, std.specs.Prelude.Bool}
 
 -- a number in 32 bits, or the greatest such
 abbrev pub in_32_bits : ℕ → ℕ
@@ -67,3 +70,35 @@ entity_of row =
       target = aim.target;
       holds = one_if aim.hold;
     }
+
+-- What is answered of the match, the states and the commands that bytes stand for.
+
+-- a match has a turn behind a state of it, and players of it gave these commands
+pub record CanTurn (setup : Setup) (state : State) (commands : List PlayerCommand) : Type 0 where
+  pub limits : IsSetup setup
+  pub valid : IsValid setup state
+  pub below : state.turn < setup.turns
+  pub players : All (IsOrderOf setup) commands
+
+-- what is stored are the bytes of the state, and their digest
+pub record IsStored (setup : Setup) (state : State) (stored : Stored) : Type 0 where
+  pub bytes : stored.bytes.items ≡ spelling setup state
+  pub digest : stored.digest ≡ digest setup state
+
+-- the digest of the state, and its turn
+pub record IsStamp (setup : Setup) (state : State) (stamp : Stamp) : Type 0 where
+  pub digest : stamp.digest ≡ digest setup state
+  pub turn : stamp.turn ≡ state.turn
+
+-- the first state of the match is stored
+abbrev pub StoresFirst : List ℕ → Stored → Type 0
+StoresFirst game stored = OfMatch game (λ setup. IsStored setup (first_state setup) stored)
+
+-- the match has a turn behind the old state; the state behind that turn is stored, the commands being those that bytes spell
+abbrev pub StoresTurn : List ℕ → List ℕ → List ℕ → Stored → Type 0
+StoresTurn game old commands stored = OfState game old (λ setup state. (state.turn < setup.turns) ×
+    ((orders : List PlayerCommand) × (orders_of setup.players commands ≡ Ok orders) × IsStored setup (turn setup state orders) stored))
+
+-- the least place at which two states differ, if there is one
+abbrev pub IsDifference : Option Place → State → State → Type 0
+IsDifference place left right = place ≡ difference_of left right

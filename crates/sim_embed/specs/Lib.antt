@@ -1,5 +1,3 @@
 pub mod Bytes
-pub mod Answers
-pub mod Orders
-pub mod Causes
 pub mod Facts
+pub mod Causes

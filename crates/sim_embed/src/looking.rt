@@ -1,8 +1,8 @@
 //! Looks at stored states, which change nothing.
 
-ghost use Rattle.{sim_base.specs.Validity.IsValid, sim_diff.specs.Difference.number_of, sim_report.specs.Show.show_text as text_of_show};
-ghost use Rattle.std.specs.Prelude.{◌≡◌, IfOk, IfErr, string_bytes};
-ghost use Rattle.sim_embed.specs.{Answers.IsDifference, Answers.IsStamp, Bytes.OfState, Bytes.OfStates, Causes.AreNoStatesOf, Causes.IsNoStateOf};
+ghost use Rattle.std.specs.Prelude.{IfErr, IfOk, string_bytes, ◌≡◌};
+ghost use Rattle.sim_embed.specs.{Bytes.OfState, Bytes.OfStates, Causes.AreNoStatesOf, Causes.IsNoStateOf, Facts.IsDifference, Facts.IsStamp};
+ghost use Rattle.{sim_base.specs.Limits.IsValid, sim_diff.specs.Difference.number_of, sim_report.specs.Show.show_text as text_of_show};
 
 use crate::reading::{match_of, state_of};
 use crate::{Refused, Stamp};

@@ -1,10 +1,10 @@
 //! The first state of a match, and a turn from a stored state on. The boxes of the systems are made in each body, since a function may
 //! hand out none.
 
-ghost use Rattle.{sim_base.specs.Limits.IsSetup, sim_base.specs.Turn.first_state, sim_base.specs.Turn.turn as turn_by, sim_base.specs.Validity.IsValid};
-ghost use Rattle.{sim_laws.specs.CommandLaws.IsOrderOf, sim_system.specs.Meanings.HaveKinds, sim_system.specs.RigWords.systems_of};
-ghost use Rattle.std.specs.Prelude.{◌≡◌, ◌<◌, IfOk, IfErr, All};
-ghost use Rattle.sim_embed.specs.{Answers.IsStored, Answers.StoresFirst, Answers.StoresTurn, Causes.IsNoMatch, Causes.IsNoTurn};
+ghost use Rattle.std.specs.Prelude.{IfErr, IfOk};
+ghost use Rattle.sim_base.specs.{Limits.IsSetup, Turn.first_state, Turn.turn as turn_by};
+ghost use Rattle.sim_embed.specs.{Causes.IsNoMatch, Causes.IsNoTurn, Facts.CanTurn, Facts.IsStored, Facts.StoresFirst, Facts.StoresTurn};
+ghost use Rattle.sim_system.specs.{Meanings.HaveKinds, RigWords.systems_of};
 
 use crate::planning::planned;
 use crate::reading::{commands_of, match_of, state_of};
@@ -72,10 +72,7 @@ fn turn_of(
     state: State,
     commands: &[PlayerCommand],
 ) -> Result<Stored, OutOfMemory>
-    requires limits { IsSetup setup.now }
-    requires valid { IsValid setup.now state }
-    requires below { state.turn < setup.now.turns }
-    requires players { All (IsOrderOf setup.now) commands.now }
+    requires can { CanTurn setup.now state commands.now }
     ensures { IfOk result (IsStored setup.now (turn_by setup.now state commands.now)) }
 {
     let ground: Box<dyn System> = Box::new(alloc, Ground::new(alloc))?;
@@ -94,10 +91,7 @@ fn played(
     commands: &[PlayerCommand],
     rig: Rig,
 ) -> Result<Stored, OutOfMemory>
-    requires limits { IsSetup setup.now }
-    requires valid { IsValid setup.now state }
-    requires below { state.turn < setup.now.turns }
-    requires players { All (IsOrderOf setup.now) commands.now }
+    requires can { CanTurn setup.now state commands.now }
     requires kinds { HaveKinds (systems_of rig ⟦<dyn System as System>⟧) }
     ensures { IfOk result (IsStored setup.now (turn_by setup.now state commands.now)) }
 {
@@ -119,10 +113,7 @@ fn taken(
     orders: &OrderTable,
     rig: Rig,
 ) -> Result<Stored, OutOfMemory>
-    requires limits { IsSetup setup.now }
-    requires valid { IsValid setup.now state }
-    requires below { state.turn < setup.now.turns }
-    requires players { All (IsOrderOf setup.now) commands.now }
+    requires can { CanTurn setup.now state commands.now }
     requires kinds { HaveKinds (systems_of rig ⟦<dyn System as System>⟧) }
     ensures { IfOk result (IsStored setup.now (turn_by setup.now state commands.now)) }
 {

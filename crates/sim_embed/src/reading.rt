@@ -1,10 +1,9 @@
 //! What bytes stand for: a match, a state of it, and the commands of a turn.
 
-ghost use Rattle.{serde_json.specs.View.view, sim_base.specs.Limits.IsSetup, sim_codec.specs.Loading.StandsFor};
-ghost use Rattle.std.specs.{Str.is_utf8, Prelude.◌≡◌, Prelude.false, Prelude.map, Prelude.IfSome, Prelude.IfOk, Prelude.IfErr, Prelude.All};
-ghost use Rattle.sim_embed.specs.{Causes.IsNoMatch, Causes.IsNoState, Orders.IsOrderFor, Orders.MeetsOrders, Orders.order_of as order_of_data};
-ghost use Rattle.sim_embed.specs.Orders.{orders_from as orders_from_data, orders_of as orders_of_bytes, TellsItem};
-ghost use Rattle.sim_setup.specs.Setups.{setup_of as setup_of_bytes};
+ghost use Rattle.std.specs.{Prelude.All, Prelude.IfErr, Prelude.IfOk, Prelude.IfSome, Prelude.false, Prelude.map, Prelude.◌≡◌, Str.is_utf8};
+ghost use Rattle.sim_embed.specs.Causes.{IsNoMatch, IsNoState, IsOrderFor, MeetsOrders, order_of as order_of_data, orders_from as orders_from_data};
+ghost use Rattle.{serde_json.specs.View.view, sim_base.specs.Limits.IsSetup, sim_codec.specs.Loading.StandsFor, sim_embed.specs.Causes.TellsItem};
+ghost use Rattle.{sim_embed.specs.Causes.orders_of as orders_of_bytes, sim_setup.specs.Setups.setup_of as setup_of_bytes};
 
 use crate::Refused;
 use serde_json::Value;
@@ -73,7 +72,7 @@ fn commands_from(alloc: Global, players: u8, items: &[Value]) -> Result<Vec<Play
 }
 
 // A command of one of so many players, or None where the item is none.
-#[tactic(auto, unfolding(crate::specs::Orders::order_of))]
+#[tactic(auto, unfolding(crate::specs::Causes::order_of))]
 fn order_of(alloc: Global, players: u8, item: &Value) -> Result<Option<PlayerCommand>, OutOfMemory>
     ensures value { IfOk result (λ order. order ≡ order_of_data players (view item.now)) }
     ensures player { IfOk result (λ found. IfSome found (IsOrderFor players)) }

@@ -1,6 +1,7 @@
 //! A state as its bytes and their digest, and what tells a state without them.
 
-ghost use Rattle.{sim_base.specs.Validity.IsValid, sim_embed.specs.Answers.IsStamp, sim_embed.specs.Answers.IsStored, std.specs.Prelude.IfOk};
+ghost use Rattle.std.specs.Prelude.{IfOk};
+ghost use Rattle.{sim_base.specs.Limits.IsValid, sim_embed.specs.Facts.IsStamp, sim_embed.specs.Facts.IsStored};
 
 use sim_base::{OutOfMemory, Setup, State};
 use sim_codec::{digest, spell};

@@ -1,11 +1,11 @@
 -- The facts that a system holds stay such.
-use Rattle.sim_fact_lists.proofs.{OneFact.noted_is, OneFact.noted_only, OneFact.part_named, OneFact.rising_kept, Rising.ascends, Rising.found_id, Rising.rising}
-use Rattle.sim_fact_lists.proofs.Common.{AreHeld, AreInRange, arith, Ascend, Born, Census, cond_both, cons_option, Fact, fact_with, Gone, Ground, Holds}
-use Rattle.sim_fact_lists.proofs.Common.{HoldsIfAny, id_in, is_inside, IsHeld, IsInRange, IsLand, IsRawFrom, keeps, kept, kept_of, Kind, Land, Moved, Note}
-use Rattle.sim_fact_lists.proofs.Common.{MatchOption, Some, None, Ok, Err, All, Option, Result, refl, aim_of, Aimed, All-cons, All-head, All-nil, All-tail, ap}
-use Rattle.sim_fact_lists.proofs.Common.{noted, NoteFits, origin, Owned, part_for, part_noted, placed, Range, size_of, subst, sym, Watch, with_changed}
-use Rattle.sim_fact_lists.proofs.Common.{with_kept, with_only, without, ◌∙◌}
-use Rattle.sim_fact_lists.proofs.Common.{◌≡◌, ℕ, ◌≤◌, Bool, true, false, cond, not, List, [], ◌∷◌, length, ℤ, IfSome, OnOk, OnErr, IsSome, IsTrue, nat_lt, ◌==◌}
+use Rattle.sim_fact_lists.proofs.Common.{Census, cond, cond_both, cons_option, Err, Fact, fact_with, false, Gone, Ground, Holds, HoldsIfAny, id_in, IfSome}
+use Rattle.sim_fact_lists.proofs.Common.{MatchOption, Moved, nat_lt, None, not, Note, noted, NoteFits, Ok, OnErr, OnOk, Option, origin, Owned, part_for}
+use Rattle.sim_fact_lists.proofs.Common.{[], aim_of, Aimed, All, All-cons, All-head, All-nil, All-tail, ap, AreHeld, AreInRange, arith, Ascend, Bool, Born}
+use Rattle.sim_fact_lists.proofs.Common.{is_inside, IsHeld, IsInRange, IsLand, IsRawFrom, IsSome, IsTrue, keeps, kept, kept_of, Kind, Land, length, List}
+use Rattle.sim_fact_lists.proofs.Common.{part_noted, placed, Range, refl, Result, size_of, Some, subst, sym, true, Watch, with_changed, with_kept, with_only}
+use Rattle.sim_fact_lists.proofs.Common.{without, ℕ, ℤ, ◌==◌, ◌∙◌, ◌∷◌, ◌≡◌, ◌≤◌}
+use Rattle.sim_fact_lists.proofs.OneFact.{ascends, found_id, noted_is, noted_only, part_named, rising, rising_kept}
 
 module _ (land : Land) (limits : IsLand land) where
   origin_inside : IsTrue (is_inside (size_of land) origin)

@@ -1,10 +1,10 @@
 -- The place of a fact by its id: what stands there, and what an edit there makes of the list.
-use Rattle.sim_fact_lists.proofs.Common.{Err, insert, remove, Option, Result, refl, ap, arith, Ascend, Belongs, cases_lt, eq-eqb, Fact, fact_with, inl, inr}
-use Rattle.sim_fact_lists.proofs.Common.{IsBinarySearchResult, IsNonDecreasingBy, IsSearchInRange, nat_cmp, nat_tests, ne_eqb, ordering_index, placed, ranked}
-use Rattle.sim_fact_lists.proofs.Common.{Stands, subst, sym, with_changed, with_only, without, ◌∙◌}
-use Rattle.sim_fact_lists.proofs.Common.{◌≡◌, ℕ, zero, suc, ◌<◌, true, false, List, [], ◌∷◌, length, get_or, set, IfSome, ◌==◌, MatchResult, Some, None, Ok}
-use Rattle.sim_fact_lists.proofs.Rising.{Above, above_at, Missing, missing_above, missing_changed, missing_found, missing_without, placed_first, Rising, rising}
-use Rattle.sim_system.proofs.Facts.{placed_behind}
+use Rattle.sim_fact_lists.proofs.Common.{IsBinarySearchResult, IsNonDecreasingBy, IsSearchInRange, length, List, MatchResult, nat_cmp, nat_tests, ne_eqb, None}
+use Rattle.sim_fact_lists.proofs.Common.{Ok, Option, ordering_index, placed, ranked, refl, remove, Result, set, Some, Stands, subst, suc, sym, true}
+use Rattle.sim_fact_lists.proofs.Common.{[], ap, arith, Ascend, Belongs, cases_lt, eq-eqb, Err, Fact, fact_with, false, get_or, IfSome, inl, inr, insert}
+use Rattle.sim_fact_lists.proofs.Common.{with_changed, with_only, without, zero, ℕ, ◌<◌, ◌==◌, ◌∙◌, ◌∷◌, ◌≡◌}
+use Rattle.sim_fact_lists.proofs.OneFact.{Above, above_at, Missing, missing_above, missing_changed, missing_found, missing_without, placed_first, Rising}
+use Rattle.{sim_fact_lists.proofs.OneFact.rising, sim_system.proofs.Facts.placed_behind}
 
 -- ---- what a search by halves answers
 

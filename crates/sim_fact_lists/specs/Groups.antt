@@ -1,7 +1,7 @@
 -- Ids in groups by key: a list of groups, ascending by key.
-use Rattle.{sim_system.specs.Facts.id_of_fact, sim_system.specs.declared.fact.Fact.Fact, std.specs.List.Sorted.IsStrictlyIncreasing}
-use Rattle.std.specs.Prelude.{◌≡◌, ℕ, ◌<◌, ◌≤◌, not, List, [], map, length, if◌then◌else◌, ◌==◌, slice_index_or, MatchOption, Some, None, filter, find, Option}
 use Rattle.sim_fact_lists.specs.{Ids.with_id, Ids.without_id, Queues.HasPlace, Queues.queued, declared.group.Group.Group}
+use Rattle.std.specs.Prelude.{[], filter, find, if◌then◌else◌, length, List, map, MatchOption, None, not, Option, slice_index_or, Some, ℕ, ◌<◌, ◌==◌, ◌≡◌, ◌≤◌}
+use Rattle.{sim_system.specs.Notes.id_of_fact, sim_system.specs.declared.fact.Fact.Fact, std.specs.List.Sorted.IsStrictlyIncreasing}
 
 abbrev pub key_of : Group → ℕ
 key_of group = group.key

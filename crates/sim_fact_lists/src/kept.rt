@@ -1,8 +1,8 @@
 //! The land and the facts of a system.
 
-ghost use Rattle.{sim_base.specs.Limits.IsLand, sim_fact_lists.specs.Places.HoldsIfAny};
-ghost use Rattle.std.specs.Prelude.{◌≡◌, ◌<◌, [], OnOk, OnErr, IsSome, IsOk, MatchOption, Some, None, vec_len, vec_capacity};
-ghost use Rattle.sim_system.specs.{Facts.kept_of, Meanings.one_more, Notes.fact_with, Notes.noted, Notes.NoteFits, Ranges.AreInRange};
+ghost use Rattle.std.specs.Prelude.{[], IsOk, IsSome, MatchOption, None, OnErr, OnOk, Some, vec_capacity, vec_len, ◌<◌, ◌≡◌};
+ghost use Rattle.sim_system.specs.Notes.{NoteFits, fact_with, kept_of, noted};
+ghost use Rattle.{sim_base.specs.Limits.IsLand, sim_fact_lists.specs.Changes.HoldsIfAny, sim_system.specs.Meanings.one_more, sim_system.specs.Notes.AreInRange};
 
 use crate::edit::{place_near, put};
 use crate::land::copy_of;

@@ -17,8 +17,8 @@ pub struct Queue {
 
 impl Queue {
     ghost use Rattle.std.specs.List.{insert as inserted, remove as removed};
-    ghost use Rattle.std.specs.Prelude.{◌≡◌, ◌<◌, ◌≤◌, [], length, OnOk, IsTrue};
-    ghost use Rattle.sim_fact_lists.specs.Queues.{HasPlace, queued};
+    ghost use Rattle.std.specs.Prelude.{◌≡◌, ◌<◌, ◌≤◌, [], length, IsTrue};
+    ghost use Rattle.sim_fact_lists.specs.Queues.{HasPlace, MakesRoom, queued};
 
     /// It has no id, and takes no memory yet.
     pub fn new(alloc: Global) -> Queue
@@ -52,9 +52,7 @@ impl Queue {
     /// that is looked at in the caller's place.
     #[inline(always)]
     pub fn make_room(&mut self) -> Result<(), OutOfMemory>
-        ensures ids { queued self.new ≡ queued self.old }
-        ensures few { self.new.left ≤ length (queued self.new) }
-        ensures room { OnOk result (HasPlace self.new) }
+        ensures { MakesRoom result self.old self.new }
     {
         if self.has_room() {
             return Ok(());
@@ -73,9 +71,7 @@ impl Queue {
     // Makes room where there may be none. It is long, and so stands apart from what is looked at each time.
     #[inline(never)]
     fn renew(&mut self) -> Result<(), OutOfMemory>
-        ensures ids { queued self.new ≡ queued self.old }
-        ensures few { self.new.left ≤ length (queued self.new) }
-        ensures room { OnOk result (HasPlace self.new) }
+        ensures { MakesRoom result self.old self.new }
     {
         if self.left > self.ids.len() / 2 {
             self.close_up();

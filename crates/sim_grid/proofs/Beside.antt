@@ -1,14 +1,12 @@
 -- The steps from a cell are told by its neighbours, so one cell that is opened or closed changes those of the cells about it alone.
-use Rattle.std.proofs.{Math.Nat.eq-or-lt_of_le, lemmas.Grind.common_steps}
-use Rattle.std.proofs.Common.{pos, ◌+ℤ◌, Some, None, Option, refl, ap, ap₂, arith, inl, inr, length-append, subst, sym, ⊎_elim, ◌∙◌}
-use Rattle.std.proofs.Common.{◌≡◌, ℕ, zero, suc, ◌+◌, ◌*◌, ◌<◌, ◌≤◌, Bool, true, false, cond, ◌&&◌, ◌||◌, ◌≢◌, ◌⊎◌, List, [], ◌∷◌, ◌++◌, length, get_or, set, ℤ}
-use Rattle.std.proofs.lemmas.{Bool.cases_Bool, Bool.true≢false, Int.ints, List.get_or-set_other, List.get_or_append_left, Nat.mul-add-lt, Nat.same_from_place}
-use Rattle.sim_base.specs.{Places.same_cell, Places.Size, declared.place.Cell.Cell}
-use Rattle.sim_base.specs.Steps.{back, beside_open, cell_at, forward, is_straight, IsOnGround, level, neighbour}
-use Rattle.sim_grid.specs.Grids.{field_of_grid, is_open_at, OpenCells, place_of}
-use Rattle.sim_grid.specs.StepBits.{AreFirstSteps, AreSteps, AreStepsApart, AreStepsBefore, AreStepsFrom, HasSteps, is_open_step, is_open_to, IsNoted}
-use Rattle.sim_laws.proofs.Ground.{same_by_parts, same_cell-self, same_cell-true}
-use Rattle.sim_laws.proofs.Neighbours.{cell_at-is, cell_at-some, neighbour-back, neighbour-below_eight, neighbour-on, past_eight}
+use Rattle.sim_base.specs.Places.{back, beside_open, cell_at, forward, is_straight, IsOnGround, level, neighbour, same_cell, Size}
+use Rattle.sim_grid.specs.Grids.{AreFirstSteps, AreSteps, AreStepsApart, AreStepsBefore, AreStepsFrom, field_of_grid, HasSteps, is_open_at, is_open_step}
+use Rattle.sim_laws.proofs.Neighbours.{cell_at-is, cell_at-some, neighbour-back, neighbour-below_eight, neighbour-on, past_eight, same_by_parts, same_cell-self}
+use Rattle.std.proofs.Common.{[], ap, ap₂, arith, Bool, cond, false, get_or, inl, inr, length, length-append, List, None, Option, pos, refl, set, Some, subst}
+use Rattle.std.proofs.Common.{suc, sym, true, zero, ℕ, ℤ, ⊎_elim, ◌&&◌, ◌*◌, ◌++◌, ◌+ℤ◌, ◌+◌, ◌<◌, ◌||◌, ◌∙◌, ◌∷◌, ◌≡◌, ◌≢◌, ◌≤◌, ◌⊎◌}
+use Rattle.std.proofs.lemmas.{Bool.cases_Bool, Bool.true≢false, Grind.common_steps, Int.ints, List.get_or-set_other, List.get_or_append_left, Nat.mul-add-lt}
+use Rattle.{sim_base.specs.declared.place.Cell.Cell, sim_grid.specs.Grids.IsNoted, sim_grid.specs.Grids.OpenCells, sim_grid.specs.Grids.is_open_to}
+use Rattle.{sim_grid.specs.Grids.place_of, sim_laws.proofs.Neighbours.same_cell-true, std.proofs.Math.Nat.eq-or-lt_of_le, std.proofs.lemmas.Nat.same_from_place}
 
 -- ---- two cells of a ground stand in two places
 

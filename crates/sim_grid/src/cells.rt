@@ -1,9 +1,10 @@
 //! Which cells of a ground are open: one truth value for each, row by row. It stands below the grid, which keeps beside
 //! it what steps they leave.
 
-ghost use Rattle.sim_base.specs.{Steps.cell_at as cell_of_numbers, Steps.IsOnGround, Steps.neighbour as neighbour_of, Steps.offsets, declared.place.Cell.Cell};
-ghost use Rattle.sim_grid.specs.{Grids.is_open_at, Grids.IsGrid, Grids.IsOneOff, Grids.place_of, Spots.IsSpot};
-ghost use Rattle.std.specs.Prelude.{◌*◌, ◌+ℤ◌, ◌<◌, ◌↔◌, ◌≡◌, ◌≢◌, ◌≤ℤ◌, ◌≤◌, IfOk, IsTrue, None, pos, replicate, slice_get, slice_set, Some, true};
+ghost use Rattle.std.specs.Prelude.{IfOk, pos, replicate, slice_get, slice_set, Some, true, ◌*◌, ◌+ℤ◌, ◌<◌, ◌≡◌, ◌≤ℤ◌};
+ghost use Rattle.sim_base.specs.Places.{cell_at as cell_of_numbers, IsOnGround, neighbour as neighbour_of, offsets};
+ghost use Rattle.sim_base.specs.declared.place.Cell.{Cell};
+ghost use Rattle.sim_grid.specs.Grids.{HasSpotBeside, is_open_at, IsDepth, IsGrid, IsGroundSize, IsOneOff, IsWidth, place_of};
 
 use crate::spot::Spot;
 use sim_base::{Cell, OutOfMemory};
@@ -31,10 +32,7 @@ impl Model for Cells {
 impl Cells {
     /// The cells of a ground of so many, all open.
     pub fn new(alloc: Global, width: u16, depth: u16) -> Result<Cells, OutOfMemory>
-        requires wide { 1 ≤ width }
-        requires narrow { width ≤ 256 }
-        requires deep { 1 ≤ depth }
-        requires shallow { depth ≤ 256 }
+        requires { IsGroundSize (record { width = width; depth = depth }) }
         ensures { IfOk result (λ g. g ≡ record { size = record { width = width; depth = depth }; cells = replicate (width * depth) true }) }
     {
         let count = usize::from(width) * usize::from(depth);
@@ -47,25 +45,16 @@ impl Cells {
 
     /// How many cells the ground has from west to east.
     pub fn width(&self) -> u16
-        ensures width { result ≡ self.now.size.width }
-        ensures grid { IsGrid self.now }
+        ensures { IsWidth self.now result }
     {
         self.width
     }
 
     /// How many cells the ground has from south to north.
     pub fn depth(&self) -> u16
-        ensures depth { result ≡ self.now.size.depth }
-        ensures grid { IsGrid self.now }
+        ensures { IsDepth self.now result }
     {
         self.depth
-    }
-
-    /// Whether the ground has this cell.
-    pub fn has(&self, cell: Cell) -> bool
-        ensures { IsTrue result ↔ IsOnGround self.now.size cell }
-    {
-        cell.x < self.width && cell.z < self.depth
     }
 
     /// Whether the cell is open.
@@ -76,12 +65,11 @@ impl Cells {
         self.cells[self.place(cell)]
     }
 
-    /// Opens or closes the cell.
-    pub fn set(&mut self, cell: Cell, free: bool)
-        requires { IsOnGround self.old.size cell }
-        ensures { self.new ≡ record self.old { cells = slice_set self.old.cells (place_of self.old.size cell) free } }
+    /// Opens or closes the cell at this place of the list.
+    pub fn set(&mut self, place: usize, free: bool)
+        requires { place < self.old.size.width * self.old.size.depth }
+        ensures { self.new ≡ record self.old { cells = slice_set self.old.cells place free } }
     {
-        let place = self.place(cell);
         self.cells[place] = free;
     }
 
@@ -92,21 +80,6 @@ impl Cells {
     {
         let (x, z) = offset(which);
         self.cell_from(cell, x, z)
-    }
-
-    /// The cell beside this one in one of the eight directions, where the ground has it.
-    pub fn beside(&self, cell: Cell, which: u8) -> Cell
-        requires which { which < 8 }
-        requires there { neighbour_of self.now.size cell which ≢ None }
-        ensures { neighbour_of self.now.size cell which ≡ Some result }
-    {
-        // For what is known of the ground's size then.
-        let _ = &self.width;
-        let (x, z) = offset(which);
-        Cell {
-            x: moved(cell.x, x),
-            z: moved(cell.z, z),
-        }
     }
 
     // The cell so far east and north of this one, if the ground has it.
@@ -145,9 +118,7 @@ impl Cells {
     /// Where the cell beside this one in one of the eight directions stands in the list, where the ground has it.
     #[inline(always)]
     pub fn place_beside(&self, from: Spot, which: u8) -> usize
-        requires which { which < 8 }
-        requires from { IsSpot self.now.size from }
-        requires there { neighbour_of self.now.size from.cell which ≢ None }
+        requires { HasSpotBeside self.now.size from which }
         ensures { (to : Cell) → neighbour_of self.now.size from.cell which ≡ Some to → result ≡ place_of self.now.size to }
     {
         let width = usize::from(self.width);
@@ -164,8 +135,8 @@ impl Cells {
     }
 }
 
-// How far a direction goes east and north.
-fn offset(which: u8) -> (i32, i32)
+/// How far a direction goes east and north.
+pub fn offset(which: u8) -> (i32, i32)
     requires { which < 8 }
     ensures offset { slice_get offsets which ≡ Some result }
     ensures x { IsOneOff result.0 }
@@ -183,8 +154,8 @@ fn offset(which: u8) -> (i32, i32)
     }
 }
 
-// A coordinate, one more, one less or as it was.
-fn moved(from: u16, by: i32) -> u16
+/// A coordinate, one more, one less or as it was.
+pub fn moved(from: u16, by: i32) -> u16
     requires by { IsOneOff by }
     requires least { pos 0 ≤ℤ (pos from +ℤ by) }
     requires most { (pos from +ℤ by) ≤ℤ pos 255 }

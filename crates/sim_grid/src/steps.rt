@@ -1,9 +1,9 @@
 //! The steps that lead over open cells, as a bit for each of the eight directions. They are noted for each cell when the
 //! cells change, so that whoever goes from cell to cell reads one byte and looks at none of those about it.
 
-ghost use Rattle.{sim_base.specs.Steps.beside_open, sim_base.specs.Steps.IsOnGround, sim_grid.specs.Grids.field_of_grid, sim_grid.specs.Grids.is_open_at};
-ghost use Rattle.std.specs.Prelude.{◌≡◌, ◌+◌, ◌*◌, ◌<◌, IfOk, OnOk, vec_len};
-ghost use Rattle.sim_grid.specs.StepBits.{AreFirstSteps, AreSteps, AreStepsApart, AreStepsFrom, is_open_step, IsNoted};
+ghost use Rattle.std.specs.Prelude.{IfOk, OnOk, vec_len, ◌*◌, ◌+◌, ◌<◌, ◌≡◌};
+ghost use Rattle.sim_base.specs.Places.{beside_open, IsOnGround};
+ghost use Rattle.sim_grid.specs.Grids.{AreFirstSteps, AreSteps, AreStepsApart, AreStepsFrom, field_of_grid, is_open_at, is_open_step, IsNoted, LooksFrom};
 
 use crate::cells::Cells;
 use sim_base::{Cell, OutOfMemory};
@@ -20,8 +20,7 @@ fn is_beside_open(cells: &Cells, from: Cell, to: Cell) -> bool
 
 // Whether a step from this cell in that direction leads over open cells.
 fn leads_on(cells: &Cells, from: Cell, which: u8) -> bool
-    requires which { which < 8 }
-    requires from { IsOnGround cells.now.size from }
+    requires { LooksFrom cells.now.size from which }
     ensures { result ≡ is_open_step (field_of_grid cells.now) from which }
 {
     match cells.neighbour(from, which) {

@@ -1,7 +1,7 @@
 -- The cells of a ground, row by row, and the nearer one of two.
+use Rattle.sim_base.specs.{Places.centre_of, Places.square, Ways.lesser_of, declared.place.Cell.Cell, declared.place.Point.Point, declared.place.Rect.Rect}
 use Rattle.std.specs.List.{flat_map, range_with_len}
-use Rattle.std.specs.Prelude.{◌≡◌, ℕ, ◌<◌, List, [], ◌∷◌, map, Some, Option}
-use Rattle.sim_base.specs.{Least.lesser_of, Places.centre_of, Places.square, declared.place.Cell.Cell, declared.place.Point.Point}
+use Rattle.std.specs.Prelude.{[], Bool, false, int_le, List, map, None, Option, Some, ℕ, ℤ, ◌&&◌, ◌<◌, ◌∷◌, ◌≡◌}
 
 -- the first n cells of row z
 abbrev pub row_of : ℕ → ℕ → List Cell
@@ -27,3 +27,18 @@ spot_key p c = square (centre_of c) p ∷ c.z ∷ c.x ∷ []
 -- the nearer one of the best so far, if any, and another
 abbrev pub nearer : Point → Option Cell → Cell → Option Cell
 nearer p best c = Some (lesser_of (spot_key p) best c)
+
+-- Rectangles with a cell in common.
+
+-- two stretches of numbers, whose ends are theirs, have a number in common
+abbrev pub meet : ℤ → ℤ → ℤ → ℤ → Bool
+meet low high other_low other_high = (int_le low high && int_le other_low other_high) && (int_le low other_high && int_le other_low high)
+
+-- two rectangles have a cell in common
+abbrev pub overlap : Rect → Rect → Bool
+overlap a b = meet a.x0 a.x1 b.x0 b.x1 && meet a.z0 a.z1 b.z0 b.z1
+
+-- a rectangle and that of an entity, if it is an obstruction
+abbrev pub overlaps_any : Rect → Option Rect → Bool
+overlaps_any a None = false
+overlaps_any a (Some b) = overlap a b

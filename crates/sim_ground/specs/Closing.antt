@@ -1,7 +1,8 @@
 -- Stretches of cells, and the grid of the open cells of a land with obstructions.
-use Rattle.{sim_grid.specs.Grids.is_open_at, sim_grid.specs.Grids.OpenCells, sim_system.specs.Answers.is_open_among, sim_system.specs.declared.fact.Fact.Fact}
-use Rattle.std.specs.Prelude.{◌≡◌, ℕ, Bool, ◌&&◌, List, nat_lt, nat_le, ◌==◌}
-use Rattle.sim_base.specs.{Rows.size_of, Steps.IsOnGround, declared.place.Cell.Cell, declared.setup.Land.Land}
+use Rattle.sim_base.specs.{Places.IsOnGround, Places.Size, Rows.size_of, declared.place.Cell.Cell, declared.setup.Land.Land}
+use Rattle.std.specs.Prelude.{nat_le, nat_lt, ℕ, ◌&&◌, ◌==◌, ◌≡◌, ◌≤◌}
+use Rattle.{sim_grid.specs.Grids.OpenCells, sim_grid.specs.Grids.is_open_at, sim_ground.specs.declared.window.Window.Window}
+use Rattle.{sim_system.specs.Meanings.is_open_among, sim_system.specs.declared.fact.Fact.Fact, std.specs.Prelude.Bool, std.specs.Prelude.List}
 
 -- the cells of a row, from the first to before the end
 abbrev pub in_row : ℕ → ℕ → ℕ → Cell → Bool
@@ -15,3 +16,16 @@ in_rows south north west east c = (nat_le south c.z && nat_lt c.z north) && (nat
 pub record IsOver (land : Land) (facts : List Fact) (g : OpenCells) : Type 0 where
   pub size : g.size ≡ size_of land
   pub opens : (c : Cell) → IsOnGround (size_of land) c → is_open_at g c ≡ is_open_among land facts c
+
+-- The window of a rectangle on a ground.
+
+-- its rows and columns are of a ground of this size, and no end comes before the first
+pub record LiesOn (size : Size) (window : Window) : Type 0 where
+  pub rows : window.south ≤ window.north
+  pub north : window.north ≤ size.depth
+  pub order : window.west ≤ window.east
+  pub east : window.east ≤ size.width
+
+-- whether a cell is in it
+abbrev pub in_window : Window → Cell → Bool
+in_window window c = in_rows window.south window.north window.west window.east c

@@ -1,8 +1,10 @@
 -- How many rectangles cover each cell, and what one more or fewer changes.
-use Rattle.{sim_grid.specs.Grids.is_open_at, sim_grid.specs.Grids.OpenCells, sim_grid.specs.Grids.place_of, sim_system.specs.declared.fact.Fact.Fact}
-use Rattle.std.specs.Prelude.{◌≡◌, ℕ, ◌+◌, ◌*◌, ◌<◌, ◌≤◌, Bool, true, false, List, length, ◌==◌, slice_index, count_by, Option}
-use Rattle.sim_base.specs.{Filters.rect_covers, Places.covers, Places.Size, Rows.size_of, Steps.IsOnGround, declared.place.Cell.Cell, declared.setup.Land.Land}
-use Rattle.sim_fact_lists.specs.Changes.{one_if, passes}
+use Rattle.sim_base.specs.{Commands.rect_covers, Places.IsOnGround, Places.Size, Places.covers, Rows.size_of, declared.place.Cell.Cell}
+use Rattle.std.specs.Prelude.{[], Bool, count_by, false, IsNone, length, List, MatchOption, None, Option, slice_index, Some, true, ℕ, ◌*◌, ◌+◌, ◌<◌, ◌==◌, ◌≡◌}
+use Rattle.std.specs.Prelude.{◌≤◌}
+use Rattle.{sim_base.specs.declared.setup.Land.Land, sim_fact_lists.specs.Changes.one_if, sim_fact_lists.specs.Changes.passes, sim_grid.specs.Grids.OpenCells}
+use Rattle.{sim_grid.specs.Grids.is_open_at, sim_grid.specs.Grids.place_of, sim_search.specs.Floods.AreLabels, sim_search.specs.Floods.label_in}
+use Rattle.{sim_search.specs.declared.labels.Labels.Labels, sim_system.specs.Meanings.field_among, sim_system.specs.declared.fact.Fact.Fact}
 
 -- the number of closed rectangles and of obstructions that cover a cell
 abbrev pub layers_among : Land → List Fact → Cell → ℕ
@@ -62,3 +64,15 @@ LayersTurn before after size old new = (c : Cell) → IsOnGround size c → laye
 -- each cell has as many layers as cover it among the facts
 abbrev pub AreLayersOf : Land → List Fact → List ℕ → Type 0
 AreLayersOf land facts layers = (c : Cell) → IsOnGround (size_of land) c → layers_at (size_of land) layers c ≡ layers_among land facts c
+
+-- What a ground lends of what it keeps.
+
+-- the labels of the cells that are open among the facts, just where there is a land
+abbrev pub AreRegions : Option Land → List Fact → Option Labels → Type 0
+AreRegions None facts regions = IsNone regions
+AreRegions (Some land) facts regions = MatchOption regions ⊥ (λ (labels : Labels). AreLabels (field_among land facts) (label_in labels))
+
+-- the layers over the cells of the ground by z, then x; no layer where there is no land
+abbrev pub AreLayers : Option Land → List Fact → List ℕ → Type 0
+AreLayers None facts layers = layers ≡ []
+AreLayers (Some land) facts layers = (length layers ≡ land.width * land.depth) × AreLayersOf land facts layers

@@ -1,10 +1,6 @@
 pub mod Cells
 pub mod Closing
-pub mod Windows
 pub mod Covering
 pub mod Opening
-pub mod Overlaps
-pub mod Lent
 pub mod Layers
-pub mod Mended
 pub mod Mending

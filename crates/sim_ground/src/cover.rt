@@ -1,10 +1,10 @@
 //! How many rectangles cover each cell, and beside that the grid of the cells that none covers. A rectangle that comes or
 //! goes changes the cells that it covers and no other.
 
-ghost use Rattle.std.specs.Prelude.{◌≡◌, ◌+◌, ◌*◌, ◌<◌, ◌≤◌, false, length, replicate, IfOk, count_by};
-ghost use Rattle.sim_base.specs.{Filters.rect_covers, Places.covers, Places.same_cell, Rows.size_of, Steps.IsOnGround};
-ghost use Rattle.sim_ground.specs.{Closing.in_row, Layers.most_layers, Layers.part_covers, Layers.Steps, Windows.in_window, Windows.LiesOn};
-ghost use Rattle.sim_ground.specs.Layers.{AreAtMost, AreLayersOf, AreOpenWhereNone, layers_at, LayersTurn, MayChange, MayStep};
+ghost use Rattle.std.specs.Prelude.{count_by, false, IfOk, length, replicate, ◌*◌, ◌+◌, ◌<◌, ◌≡◌, ◌≤◌};
+ghost use Rattle.sim_base.specs.{Commands.rect_covers, Places.IsOnGround, Places.covers, Places.same_cell, Rows.size_of};
+ghost use Rattle.sim_ground.specs.Closing.{in_row, in_window, LiesOn};
+ghost use Rattle.sim_ground.specs.Layers.{AreAtMost, AreLayersOf, AreOpenWhereNone, layers_at, LayersTurn, MayChange, MayStep, most_layers, part_covers, Steps};
 
 use crate::window::{Window, window_of};
 use sim_base::{Cell, Land, OutOfMemory, Rect};

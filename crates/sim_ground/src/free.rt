@@ -1,8 +1,8 @@
 //! Whether a rectangle is free. It is compared with the other rectangles, and no cell is gone through.
 
-ghost use Rattle.{sim_base.specs.Places.is_rect_inside, sim_base.specs.Rows.size_of, sim_system.specs.Answers.is_free_among};
-ghost use Rattle.std.specs.{List.list_any, Prelude.◌≡◌, Prelude.not, Prelude.◌&&◌};
-ghost use Rattle.sim_ground.specs.Overlaps.{meet, overlap as overlap_of, overlaps_any};
+ghost use Rattle.std.specs.{List.list_any, Prelude.not, Prelude.◌&&◌, Prelude.◌≡◌};
+ghost use Rattle.{sim_base.specs.Places.is_rect_inside, sim_base.specs.Rows.size_of, sim_ground.specs.Cells.meet, sim_ground.specs.Cells.overlap as overlap_of};
+ghost use Rattle.{sim_ground.specs.Cells.overlaps_any, sim_system.specs.Meanings.is_free_among};
 
 use sim_base::{Land, Rect};
 use sim_system::Fact;

@@ -1,10 +1,10 @@
 //! The labels of the open cells where a rectangle came or went: those of its cells alone are changed, if that is enough.
 
-ghost use Rattle.sim_base.specs.{Filters.rect_covers, Places.covers, Places.same_cell, Steps.IsOnGround};
-ghost use Rattle.sim_ground.specs.{Closing.in_row, Layers.part_covers, Mended.AddsTurned, Mended.is_turned as was_turned, Windows.LiesOn};
-ghost use Rattle.sim_ground.specs.Mending.{AreMended, MayClose, MayMend, MayOpen};
+ghost use Rattle.std.specs.Prelude.{[], IfOk, OnOk, ◌<◌, ◌≡◌};
+ghost use Rattle.sim_base.specs.{Commands.rect_covers, Places.IsOnGround, Places.covers, Places.same_cell};
+ghost use Rattle.sim_ground.specs.Mending.{MayMend, MayOpen, is_turned as was_turned};
+ghost use Rattle.sim_ground.specs.{Closing.LiesOn, Closing.in_row, Layers.part_covers, Mending.AddsTurned, Mending.AreMended, Mending.MayClose};
 ghost use Rattle.sim_search.specs.Floods.{label_in};
-ghost use Rattle.std.specs.Prelude.{[], ◌<◌, ◌≡◌, IfOk, OnOk};
 
 use crate::window::{Window, window_of};
 use sim_base::{Cell, OutOfMemory, Rect};

@@ -2,10 +2,10 @@
 //! closed or opened a cell, the labels of these cells alone are changed if no other changes by that, and else all are made anew.
 //! They serve every ask until the next note does.
 
-ghost use Rattle.{sim_base.specs.Rows.size_of, sim_ground.specs.Covering.MayDraw, sim_search.specs.Floods.label_in, sim_search.specs.Regions.AreLabels};
-ghost use Rattle.std.specs.Prelude.{◌≡◌, false, IfOk, OnOk, OnErr};
-ghost use Rattle.sim_grid.specs.Grids.{field_of_grid};
+ghost use Rattle.std.specs.Prelude.{false, IfOk, OnErr, OnOk, ◌≡◌};
 ghost use Rattle.sim_ground.specs.Layers.{AreAtMost, AreLayersOf, LayersTurn, MayChange, most_layers, no_part, part_covers};
+ghost use Rattle.sim_search.specs.Floods.{label_in};
+ghost use Rattle.{sim_base.specs.Rows.size_of, sim_grid.specs.Grids.field_of_grid, sim_ground.specs.Covering.MayDraw, sim_search.specs.Floods.AreLabels};
 
 use crate::cover::Cover;
 use crate::mended::are_mended;

@@ -1,8 +1,8 @@
 //! The open cell nearest to a point, looked for over the grid of open cells.
 
-ghost use Rattle.{sim_base.specs.Least.least_of, sim_base.specs.Places.cells_of, sim_base.specs.Places.IsPlaced, sim_grid.specs.Grids.is_open_at};
-ghost use Rattle.std.specs.Prelude.{◌≡◌, ◌<◌, Some, fold, filter, Option};
+ghost use Rattle.std.specs.Prelude.{filter, fold, Option, Some, ◌<◌, ◌≡◌};
 ghost use Rattle.sim_ground.specs.Cells.{IsSmall, IsSmallIfAny, nearer, row_of, spot_key};
+ghost use Rattle.{sim_base.specs.Places.IsPlaced, sim_base.specs.Places.cells_of, sim_base.specs.Ways.least_of, sim_grid.specs.Grids.is_open_at};
 
 use sim_base::{Cell, Point, centre_of, square};
 use sim_grid::Grid;

@@ -1,8 +1,8 @@
 //! The system: the obstructions, and beside them the layers over each cell, the grid of the open cells and its labels.
 
-ghost use Rattle.std.specs.Prelude.{◌≡◌, [], OnOk, OnErr, MatchOption, None, option_copied};
-ghost use Rattle.sim_ground.specs.{Lent.AreLayers, Lent.AreRegions, Opening.builds, Opening.IsKept};
-ghost use Rattle.sim_system.specs.{Notes.noted, Notes.NoteFits, declared.kind.Kind.TheVariants.Ground as GroundKind};
+ghost use Rattle.std.specs.Prelude.{[], MatchOption, None, OnErr, OnOk, option_copied, ◌≡◌};
+ghost use Rattle.sim_ground.specs.{Layers.AreLayers, Layers.AreRegions, Opening.IsKept, Opening.builds};
+ghost use Rattle.sim_system.specs.{Notes.NoteFits, Notes.noted, declared.kind.Kind.TheVariants.Ground as GroundKind};
 
 use crate::drawn::{Drawn, draw};
 use crate::free::is_free;

@@ -1,8 +1,8 @@
 //! Ways over the open cells, in the rooms of searches.
 
-ghost use Rattle.{sim_base.specs.Places.is_inside, sim_base.specs.WayOf.way_of, sim_search.specs.Floods.label_in, sim_search.specs.Regions.AreLabels};
-ghost use Rattle.{sim_grid.specs.Grids.field_of_grid, sim_path.specs.Answers.way_in};
-ghost use Rattle.std.specs.Prelude.{◌≡◌, IfOk, IsTrue};
+ghost use Rattle.std.specs.Prelude.{IfOk, IsTrue, ◌≡◌};
+ghost use Rattle.sim_search.specs.Floods.{AreLabels, label_in};
+ghost use Rattle.{sim_base.specs.Places.is_inside, sim_base.specs.Ways.way_of, sim_grid.specs.Grids.field_of_grid, sim_path.specs.Answers.way_in};
 
 use crate::opened::Opened;
 use crate::rooms::Rooms;

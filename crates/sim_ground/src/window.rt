@@ -1,8 +1,7 @@
 //! Which rows and columns of a ground a rectangle has: its ends are any numbers, and those of a window are of the ground.
 
-ghost use Rattle.sim_base.specs.{Places.covers, Steps.IsOnGround};
-ghost use Rattle.sim_ground.specs.Windows.{in_window, LiesOn};
 ghost use Rattle.std.specs.Prelude.{◌≡◌};
+ghost use Rattle.{sim_base.specs.Places.IsOnGround, sim_base.specs.Places.covers, sim_ground.specs.Closing.LiesOn, sim_ground.specs.Closing.in_window};
 
 use crate::span::span;
 use sim_base::{Cell, Rect};

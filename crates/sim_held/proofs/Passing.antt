@@ -1,11 +1,14 @@
 -- What a client hears without memory.
-use Rattle.{sim_base.specs.Bytes.u32_bytes, sim_base.specs.declared.setup.Setup.Setup, sim_client.specs.ClientWords.Answers}
-use Rattle.sim_client.specs.{ClientWords.NeedsNoMemory, LifeLaws.says_of, Lives.Told, declared.did.Did.Did, declared.did.Did.TheVariants.Done}
-use Rattle.{sim_client.specs.declared.did.Did.TheVariants.Idle, sim_held.proofs.Common.[], sim_held.proofs.Common.if◌then◌else◌}
-use Rattle.sim_held.proofs.Common.{◌<◌, ◌∙◌, ◌≡◌, Act, arith, Bool, false, hears, length, Life, List, None, Ok, On, Option, refl, Some, subst, sym, true, ℕ}
-use Rattle.{sim_held.specs.Acting.said_by, sim_held.specs.Hearing.brings_state, sim_plain_session.specs.Players.Player, sim_wire.specs.Fits.IsDownFrame}
-use Rattle.{sim_wire.specs.Frames.down_frame, std.specs.Prelude.nat_eq, std.specs.Prelude.nat_lt, std.specs.Prelude.slice_index_or}
 use Rattle.sim_plain.specs.declared.message.DownOf.TheVariants as down
+use Rattle.sim_plain.specs.declared.message.UpOf.TheVariants as up
+use Rattle.sim_base.specs.{Limits.HasFewIds, Limits.IsSetup, Limits.IsValid, Spelling.spelling, Spelling.u32_bytes, declared.command.Command.Command}
+use Rattle.sim_client.specs.{ClientWords.Answers, ClientWords.NeedsNoMemory, Lives.Told, Lives.says_of, declared.did.Did.Did, declared.did.Did.TheVariants.Done}
+use Rattle.sim_held.proofs.Common.{Option, orders, refl, Some, subst, sym, true, ℕ, ◌++◌, ◌<◌, ◌∙◌, ◌∷◌, ◌≡◌}
+use Rattle.sim_held.proofs.Common.{[], Act, All, All-cons, All-nil, arith, Bool, false, hears, if◌then◌else◌, IsSmallUp, length, Life, List, None, Ok, On}
+use Rattle.{sim_base.specs.declared.setup.Setup.Setup, sim_client.proofs.Small.orders_small, sim_client.proofs.Spelled.states_are_short}
+use Rattle.{sim_client.specs.declared.did.Did.TheVariants.Idle, sim_held.specs.Clients.said_by, sim_held.specs.Hearing.brings_state, sim_plain.specs.Server.put}
+use Rattle.{sim_plain_session.specs.Pasts.is_client, sim_plain_session.specs.Players.Player, sim_wire.specs.Reading.IsDownFrame}
+use Rattle.{sim_wire.specs.Reading.down_frame, std.specs.Prelude.nat_eq, std.specs.Prelude.nat_lt, std.specs.Prelude.slice_index_or, std.specs.Prelude.◌&&◌}
 
 -- ---- the tag of a frame
 
@@ -56,3 +59,44 @@ silent_did None old Idle new h none = refl
 silent_did None old (Done ups) new h none = absurd h
 silent_did (Some act) old Idle new h none = absurd h
 silent_did (Some act) old (Done ups) new h none = h.1 ∙ none
+
+-- What a client says has frames.
+
+none : All IsSmallUp []
+none = All-nil IsSmallUp
+
+hears_small : (setup : Setup) (said : Told) (player : Player) → IsSetup setup → IsValid setup player.state → All IsSmallUp
+    (says_of (hears setup None said (On player)))
+hears_small setup (down.Ask j) player limits valid = All-cons IsSmallUp (up.State j player.state.turn (spelling setup player.state)) []
+    (states_are_short setup player.state limits valid) none
+hears_small setup (down.State done bytes) player limits valid = none
+hears_small setup (down.Command t order) player limits valid = by (nat_lt player.state.turn t && is_client setup order.player)
+  where
+    by : (b : Bool) → All IsSmallUp
+        (says_of (if b then Some (record { life = On (record player { known = put t (player.known t ++ order ∷ []) player.known }); says = [] }) else None))
+    by true = none
+    by false = none
+hears_small setup (down.Release t) player limits valid = by (nat_lt player.released t)
+  where
+    by : (b : Bool) → All IsSmallUp (says_of (if b then Some (record { life = On (record player { released = t }); says = [] }) else None))
+    by true = none
+    by false = none
+hears_small setup (down.Notice t j) player limits valid = none
+hears_small setup (down.Refused code) player limits valid = none
+
+-- what was said has frames, where what is to be said has them
+said_small : (act : Option Act) (old : Life) (did : Did) (new : Life) → Answers act old (Ok did) new → All IsSmallUp (says_of act)
+    → All IsSmallUp (said_by did)
+said_small None old Idle new h small = none
+said_small None old (Done ups) new h small = absurd h
+said_small (Some act) old Idle new h small = absurd h
+said_small (Some act) old (Done ups) new h small = subst (All IsSmallUp) (sym h.1) small
+
+pub order_small : (setup : Setup) (command : Command) (old : Life) (did : Did) (new : Life) → HasFewIds command → Answers (orders setup command old) old
+    (Ok did) new → All IsSmallUp (said_by did)
+order_small setup command old did new few answers = said_small (orders setup command old) old did new answers (orders_small setup command old few)
+
+pub hear_small : (setup : Setup) (said : Told) (player : Player) (did : Did) (new : Life) → IsSetup setup → IsValid setup player.state
+    → Answers (hears setup None said (On player)) (On player) (Ok did) new → All IsSmallUp (said_by did)
+hear_small setup said player did new limits valid answers =
+    said_small (hears setup None said (On player)) (On player) did new answers (hears_small setup said player limits valid)

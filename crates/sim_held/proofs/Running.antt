@@ -1,10 +1,9 @@
 -- Turns that a client plays one behind another.
-use Rattle.sim_base.specs.declared.setup.Setup.{Setup}
-use Rattle.sim_held.proofs.Common.{◌≡◌, ℕ, zero, suc, ◌+◌, ◌≤◌, ◌⊎◌, Bool, true, false, List, ◌++◌, if◌then◌else◌, Some, None, Ok, Option, refl, ap, append_assoc, arith}
-use Rattle.sim_held.proofs.Common.{Act, append-nil, cases_eq, flat_map-append, frames_of, inl, inr, Life, plays, subst, sym, up_frame, ◌∙◌}
-use Rattle.{sim_client.specs.Lives.On, sim_client.specs.Lives.Off, sim_client.specs.Lives.Joining, sim_client.specs.Lives.played, sim_client.specs.Lives.told}
-use Rattle.sim_held.specs.{Acting.may_run, Runs.goes_on, Runs.Ran, Runs.Run, Runs.runs, Turns.PlaysOnce, Turns.RanOn}
-use Rattle.std.proofs.lemmas.Bool.{false≢true}
+use Rattle.sim_held.proofs.Common.{Act, ap, append-nil, append_assoc, arith, Bool, cases_eq, false, flat_map-append, frames_of, if◌then◌else◌, inl, inr, Life}
+use Rattle.sim_held.proofs.Common.{List, None, Ok, Option, plays, refl, Some, subst, suc, sym, true, up_frame, zero, ℕ, ◌++◌, ◌+◌, ◌∙◌, ◌≡◌, ◌≤◌, ◌⊎◌}
+use Rattle.sim_held.specs.Clients.{goes_on, may_run, PlaysOnce, Ran, RanOn, Run, runs}
+use Rattle.{sim_base.specs.declared.setup.Setup.Setup, sim_client.specs.Lives.Joining, sim_client.specs.Lives.Off, sim_client.specs.Lives.On}
+use Rattle.{sim_client.specs.Lives.played, sim_client.specs.Lives.told, std.proofs.lemmas.Bool.false≢true}
 
 -- where there is no next turn, a longer run is the same
 pub runs_rest : (setup : Setup) (n : ℕ) (life : Life) → plays setup (runs setup n life).life ≡ None → (m : ℕ) → n ≤ m → runs setup m life ≡ runs setup n life

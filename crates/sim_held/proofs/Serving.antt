@@ -1,12 +1,12 @@
 -- What a server that is held comes to, in the words of its callers.
 use Rattle.sim_base.specs.declared.memory.OutOfMemory.{OutOfMemory}
-use Rattle.sim_held.proofs.Common.{[], if◌then◌else◌, ◌++◌, ◌<◌, ◌∙◌, ◌∷◌, ◌≡◌, ◌≤◌, All, All-head, All-tail, ap, arith, Bool, cond-false, DownOf, false, List}
-use Rattle.sim_held.proofs.Common.{ne_eqb, Ok, PostOf, refl, Result, subst, sym, told_to, true, ℕ}
+use Rattle.sim_held.proofs.Common.{Result, subst, sym, told_to, true, ℕ, ◌++◌, ◌<◌, ◌∙◌, ◌∷◌, ◌≡◌, ◌≤◌}
+use Rattle.sim_held.proofs.Common.{[], All, All-head, All-tail, ap, arith, Bool, cond-false, DownOf, false, if◌then◌else◌, List, ne_eqb, Ok, PostOf, refl}
 use Rattle.sim_held.specs.Servers.{AreSmall, CutsOff, Hears, is_client, IsReady, waiting, WaitsForClients}
-use Rattle.sim_pipes.proofs.{Answering.makes_rules, Answering.makes_small, Telling.clients_are_told, Telling.told_each}
-use Rattle.sim_plain.specs.{Messages.Arrival, Messages.Cut, Posts.posts, Posts.posts_of, declared.rules.Rules.Rules}
-use Rattle.sim_server.specs.{Small.IsSmallArrival, Standing.Makes, Standing.server_of, Standing.View}
-use Rattle.std.{proofs.Common.◌==◌, specs.Prelude.◌&&◌, specs.Prelude.nat_le, specs.Prelude.nat_lt}
+use Rattle.sim_pipes.proofs.Telling.{clients_are_told, makes_rules, makes_small, told_each}
+use Rattle.sim_plain.specs.{Messages.Arrival, Messages.Cut, Server.posts, Server.posts_of, declared.rules.Rules.Rules}
+use Rattle.sim_server.specs.Standing.{IsSmallArrival, Makes, server_of, View}
+use Rattle.std.{proofs.Common.◌==◌, specs.Prelude.nat_le, specs.Prelude.nat_lt, specs.Prelude.◌&&◌}
 
 abbrev Bytes : Type 0
 Bytes = List ℕ

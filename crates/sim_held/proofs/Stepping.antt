@@ -1,8 +1,8 @@
 -- What a step of a client comes to, in the words of its callers.
-use Rattle.sim_base.specs.declared.memory.OutOfMemory.{OutOfMemory}
-use Rattle.sim_held.proofs.Common.{[], ◌∙◌, ◌≡◌, Act, Err, Goes, Life, List, None, Off, Ok, OnOk, Option, Result, Some, Steps, subst, sym, Takes, ℕ}
-use Rattle.{sim_held.specs.Acting.Heeds, sim_held.specs.declared.stage.Went.Went, std.specs.Prelude.OnErr}
 use Rattle.sim_held.specs.declared.stage.Went.TheVariants as went
+use Rattle.sim_held.proofs.Common.{[], Act, Err, Goes, Life, List, None, Off, Ok, OnOk, Option, Result, Some, Steps, subst, sym, Takes, ℕ, ◌∙◌, ◌≡◌}
+use Rattle.std.specs.Prelude.{OnErr}
+use Rattle.{sim_base.specs.declared.memory.OutOfMemory.OutOfMemory, sim_held.specs.Clients.Heeds, sim_held.specs.declared.stage.Went.Went}
 
 -- a call that was refused memory is cut off
 pub goes_steps : (act : Option Act) (old mid new : Life) (out out1 out2 : List ℕ) (came result : Result Went OutOfMemory)

@@ -1,9 +1,9 @@
 -- What waits for each client of a server, as lists of posts come and go.
+use Rattle.sim_held.proofs.Common.{DownOf, eq-eqb, false, filter, flat_map, flat_map-append, flat_map-cons, get_or, if◌then◌else◌, inl, inr, IsSmallDown}
+use Rattle.sim_held.proofs.Common.{[], All, All-cons, All-head, All-nil, All-tail, ap, append-nil, append_assoc, arith, Bool, cases_eq, cond-false, cond-true}
+use Rattle.sim_held.proofs.Common.{length, List, map, ne_eqb, not, PostOf, refl, subst, suc, sym, take, take_more, told_to, true, zero, ℕ, ◌++◌, ◌+◌, ◌<◌, ◌∙◌}
+use Rattle.sim_held.{proofs.Common.◌∷◌, proofs.Common.◌≡◌, proofs.Common.◌⊎◌, specs.Servers.AreSmall, specs.Servers.has_some, specs.Servers.waiting}
 use Rattle.std.proofs.{Common.◌==◌, lemmas.List.Elements.All-filter}
-use Rattle.sim_held.proofs.Common.{not, ◌≡◌, ℕ, zero, suc, ◌<◌, Bool, true, false, ◌⊎◌, List, [], ◌∷◌, ◌++◌, map, if◌then◌else◌, All, ap, arith, All-cons, All-nil}
-use Rattle.sim_held.proofs.Common.{All-head, All-tail, cases_eq, cond-false, cond-true, DownOf, eq-eqb, filter, flat_map-cons, inl, inr, IsSmallDown}
-use Rattle.sim_held.proofs.Common.{get_or, length, ne_eqb, PostOf, refl, subst, sym, told_to, ◌∙◌}
-use Rattle.sim_held.specs.Servers.{AreSmall, has_some, waiting}
 
 abbrev Post : Type 0
 Post = PostOf (List ℕ)
@@ -107,3 +107,22 @@ none_by_list c (x ∷ xs) zero posts within is none =
     (none_before (told_to c x) (waiting xs c) (sym (flat_map-cons (told_to c) x xs) ∙ none))
 none_by_list c (x ∷ xs) (suc i) posts within is none =
     none_by_list c xs i posts (omega (arith, within)) is (none_behind (told_to c x) (waiting xs c) (sym (flat_map-cons (told_to c) x xs) ∙ none))
+
+-- Lists that a loop appends for each element of another.
+
+-- of one element alone
+pub flat_map_one : {X A : Type 0} (f : X → List A) (x : X) → flat_map f (x ∷ []) ≡ f x
+flat_map_one f x = flat_map-cons f x [] ∙ append-nil (f x)
+
+-- one element more
+pub flat_map_more : {X A : Type 0} (f : X → List A) (all : List X) (i : ℕ) (x : X) → i < length all → x ≡ get_or all i x
+    → flat_map f (take (i + 1) all) ≡ flat_map f (take i all) ++ f x
+flat_map_more f all i x lt is =
+    ap (flat_map f) (take_more all i x lt ∙ ap (λ y. take i all ++ y ∷ []) (sym is)) ∙ flat_map-append f (take i all) (x ∷ [])
+    ∙ ap (λ l. flat_map f (take i all) ++ l) (flat_map_one f x)
+
+-- what was appended so far, and one piece more
+pub appended_more : {X A : Type 0} (f : X → List A) (all : List X) (i : ℕ) (x : X) (old now new : List A) → i < length all → x ≡ get_or all i x
+    → now ≡ old ++ flat_map f (take i all) → new ≡ now ++ f x → new ≡ old ++ flat_map f (take (i + 1) all)
+appended_more f all i x old now new lt is before more =
+    more ∙ ap (λ l. l ++ f x) before ∙ append_assoc old (flat_map f (take i all)) (f x) ∙ ap (λ l. old ++ l) (sym (flat_map_more f all i x lt is))

@@ -1,10 +1,9 @@
 -- A match that is held in memory, and what a call makes of it.
-use Rattle.std.specs.{Str.is_utf8, Prelude.◌≡◌, Prelude.ℕ, Prelude.◌-◌, Prelude.◌<◌, Prelude.◌≤◌, Prelude.min, Prelude.true, Prelude.false, Prelude.List}
-use Rattle.std.specs.Prelude.{Ok, Err, IfErr, OnErr, OnOk, Result}
-use Rattle.sim_base.specs.{Limits.IsSetup, Turn.from, Turn.own_turns, Turn.turn, Validity.IsValid, declared.command.PlayerCommand.PlayerCommand}
-use Rattle.sim_base.specs.declared.{memory.OutOfMemory.OutOfMemory, setup.Setup.Setup, state.State.State}
-use Rattle.sim_embed.specs.{Orders.orders_of, declared.refused.Refused.Refused}
 use Rattle.sim_embed.specs.declared.refused.Refused.TheVariants as cause
+use Rattle.sim_base.specs.declared.{memory.OutOfMemory.OutOfMemory, setup.Setup.Setup, state.State.State}
+use Rattle.sim_base.specs.{Limits.IsSetup, Limits.IsValid, Turn.from, Turn.own_turns, Turn.turn, declared.command.PlayerCommand.PlayerCommand}
+use Rattle.std.specs.Prelude.{Err, false, IfErr, List, min, Ok, OnErr, OnOk, Result, true, ℕ, ◌-◌, ◌<◌, ◌≡◌, ◌≤◌}
+use Rattle.{sim_embed.specs.Causes.orders_of, sim_embed.specs.declared.refused.Refused.Refused, std.specs.Str.is_utf8}
 
 -- the match, and the state to which it has come
 pub record GameView : Type 0 where

@@ -1,10 +1,4 @@
 pub mod Clients
-pub mod Acting
 pub mod Hearing
-pub mod Runs
-pub mod Calls
-pub mod Turns
-pub mod Playing
-pub mod Boards
 pub mod Servers
 pub mod Games

@@ -1,13 +1,12 @@
 -- What a server that is held is to its callers, and what a call makes of it.
-use Rattle.sim_base.specs.declared.{memory.OutOfMemory.OutOfMemory, setup.Setup.Setup}
-use Rattle.{sim_held.specs.declared.stage.Went.Went, sim_held.specs.declared.stage.Went.TheVariants.Idle, sim_pipes.specs.Posts.told_to}
-use Rattle.sim_plain.specs.{Messages.Arrival, Messages.Cut, Messages.Heard, Posts.posts, Server.heard}
-use Rattle.sim_plain.specs.declared.message.{DownOf.DownOf, PostOf.PostOf, UpOf.UpOf}
-use Rattle.sim_server.specs.{Small.IsSmallServer, Standing.server_of, Standing.StandsFor, Standing.View}
-use Rattle.{sim_wire.specs.Fits.IsSmallDown, sim_wire.specs.Fits.IsUpFrame, sim_wire.specs.Frames.down_frame, std.specs.List.flat_map}
-use Rattle.std.specs.Prelude.{[], if◌then◌else◌, ◌&&◌, ◌++◌, ◌<◌, ◌==◌, ◌∷◌, ◌≡◌, ◌≤◌, All, Bool, Err, false, List, nat_le, nat_lt, None, Ok, Option, Result}
-use Rattle.std.specs.Prelude.{Some, true, ℕ}
 use Rattle.sim_held.specs.declared.stage.Went.TheVariants as went
+use Rattle.sim_plain.specs.{Messages.Arrival, Messages.Cut, Messages.Heard, Server.heard, Server.posts, declared.message.DownOf.DownOf}
+use Rattle.std.specs.Prelude.{[], All, Bool, Err, false, if◌then◌else◌, List, nat_le, nat_lt, None, Ok, Option, Result, Some, true, ℕ, ◌&&◌, ◌++◌, ◌<◌, ◌==◌}
+use Rattle.{sim_base.specs.declared.memory.OutOfMemory.OutOfMemory, sim_held.specs.declared.stage.Went.TheVariants.Idle, sim_server.specs.Standing.StandsFor}
+use Rattle.{sim_base.specs.declared.setup.Setup.Setup, sim_plain.specs.declared.message.PostOf.PostOf, sim_plain.specs.declared.message.UpOf.UpOf}
+use Rattle.{sim_held.specs.declared.stage.Went.Went, sim_server.specs.Standing.IsSmallServer, sim_server.specs.Standing.server_of, std.specs.List.flat_map}
+use Rattle.{sim_pipes.specs.Posts.told_to, std.specs.Prelude.◌∷◌, std.specs.Prelude.◌≡◌, std.specs.Prelude.◌≤◌}
+use Rattle.{sim_server.specs.Standing.View, sim_wire.specs.Reading.IsSmallDown, sim_wire.specs.Reading.IsUpFrame, sim_wire.specs.Reading.down_frame}
 
 -- the server, and what it has said to clients that have not taken it yet: one list for each arrival, the oldest first
 pub record ServerView : Type 0 where

@@ -1,11 +1,10 @@
 //! The steps of a client that is held: over its stage, its outbox and its match. What they leave after want of memory is cut off by
 //! their caller.
 
-ghost use Rattle.sim_base.specs.{Limits.HasFewIds, declared.setup.Setup.Setup as AnySetup};
-ghost use Rattle.sim_client.specs.{ClientWords.Answers, Lives.Act, Lives.joins, Lives.Life, Lives.Off, Lives.On, Lives.orders};
-ghost use Rattle.sim_held.specs.{Acting.said_by, Clients.Goes, Clients.IsPlaced, Clients.IsStage, Clients.life_at};
-ghost use Rattle.sim_wire.specs.Fits.{IsSmallUp};
-ghost use Rattle.std.specs.Prelude.{[], ◌≡◌, All, IsOk, None, Ok, OnErr, OnOk, Option};
+ghost use Rattle.std.specs.Prelude.{[], All, IsOk, None, Ok, OnErr, OnOk, Option, ◌≡◌};
+ghost use Rattle.sim_client.specs.{ClientWords.Answers, Lives.Act, Lives.Life, Lives.Off, Lives.On, Lives.joins, Lives.orders};
+ghost use Rattle.sim_held.specs.Clients.{Goes, IsPlaced, IsStage, life_at, said_by};
+ghost use Rattle.{sim_base.specs.Limits.HasFewIds, sim_base.specs.declared.setup.Setup.Setup as AnySetup, sim_wire.specs.Reading.IsSmallUp};
 
 use crate::outbox::Outbox;
 use crate::stage::{Stage, Went};

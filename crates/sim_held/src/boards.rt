@@ -2,11 +2,11 @@
 //! body, since a function may hand out none. What the rooms of the ground hold lives on in whatever is held: the ground that was drawn, and
 //! what searches have kept.
 
-ghost use Rattle.sim_base.specs.{Limits.IsSetup, Turn.first_state as first_state_of, Turn.from, Turn.own_turns, Turn.turn as turn_by, Validity.IsValid};
-ghost use Rattle.sim_board.specs.BoardWords.{setup_in, systems};
-ghost use Rattle.sim_held.specs.{Boards.CanPlay, Boards.CanReach, Boards.CanTurn, Boards.HasRun, Boards.IsMade, Clients.IsSeated, Playing.life_of, Runs.runs};
-ghost use Rattle.{sim_held.specs.Turns.RanOn, sim_system.specs.Meanings.HaveKinds, sim_system.specs.RigWords.systems_of};
-ghost use Rattle.std.specs.Prelude.{◌-◌, ◌≡◌, IfOk, OnOk};
+ghost use Rattle.std.specs.Prelude.{IfOk, OnOk, ◌-◌, ◌≡◌};
+ghost use Rattle.sim_base.specs.{Limits.IsSetup, Limits.IsValid, Turn.first_state as first_state_of, Turn.from, Turn.own_turns, Turn.turn as turn_by};
+ghost use Rattle.sim_held.specs.Clients.{CanReach, HasRun, IsMade, IsSeated, RanOn, life_of, runs};
+ghost use Rattle.sim_system.specs.{Meanings.HaveKinds, RigWords.systems_of};
+ghost use Rattle.{sim_board.specs.Boards.setup_in, sim_board.specs.Boards.systems, sim_embed.specs.Facts.CanTurn, sim_held.specs.Clients.CanPlay};
 
 use crate::copying::no_state;
 use crate::planning::planned;

@@ -1,11 +1,10 @@
 //! A client that is held.
 
-ghost use Rattle.{sim_board.specs.BoardWords.state_in, sim_client.specs.ClientWords.is_joining, sim_client.specs.ClientWords.state_of};
-ghost use Rattle.{sim_client.specs.ClientWords.turn_of, sim_embed.specs.Answers.IsStamp, sim_embed.specs.Answers.IsStored, sim_embed.specs.Bytes.OfMatch};
-ghost use Rattle.{sim_embed.specs.Causes.IsNoMatch, sim_embed.specs.Facts.entity_of, sim_held.specs.Calls.HearsFrame, sim_held.specs.Calls.IsCutOff};
-ghost use Rattle.sim_held.specs.{Calls.Joins, Calls.LooksAtClient, Calls.Orders, Calls.Plays, Clients.done_of, Clients.IsNew, Clients.IsSame, Clients.life};
-ghost use Rattle.{sim_held.specs.Clients.LooksAt, sim_held.specs.Clients.released_of, sim_report.specs.Show.show_text};
-ghost use Rattle.std.specs.Prelude.{[], ◌≡◌, IfErr, IfOk, map, option_copied, Some, string_bytes};
+ghost use Rattle.std.specs.Prelude.{[], IfErr, IfOk, map, option_copied, Some, string_bytes, ◌≡◌};
+ghost use Rattle.sim_held.specs.Clients.{done_of, HearsFrame, IsCutOff, IsNew, IsSame, Joins, life, LooksAt, LooksAtClient, Orders, Plays, released_of};
+ghost use Rattle.{sim_board.specs.Boards.state_in, sim_client.specs.ClientWords.is_joining, sim_client.specs.ClientWords.state_of};
+ghost use Rattle.{sim_client.specs.ClientWords.turn_of, sim_embed.specs.Bytes.OfMatch, sim_embed.specs.Causes.IsNoMatch, sim_embed.specs.Facts.IsStamp};
+ghost use Rattle.{sim_embed.specs.Facts.IsStored, sim_embed.specs.Facts.entity_of, sim_report.specs.Show.show_text};
 
 use crate::acting::{join, settle};
 use crate::beginning::first_stage;

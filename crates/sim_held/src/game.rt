@@ -1,9 +1,9 @@
 //! A match that is held in memory, for a game without a network and for replays.
 
-ghost use Rattle.{sim_base.specs.Turn.first_state as first_state_of, sim_report.specs.Show.show_text};
-ghost use Rattle.std.specs.Prelude.{◌≡◌, map, IfOk, IfErr, string_bytes};
-ghost use Rattle.sim_embed.specs.{Answers.IsStamp, Answers.IsStored, Bytes.OfMatch, Bytes.OfState, Causes.IsNoMatch, Causes.IsNoStateOf, Facts.entity_of};
-ghost use Rattle.sim_held.specs.Games.{PlaysGame, PlaysOwnTurns};
+ghost use Rattle.std.specs.Prelude.{IfErr, IfOk, map, string_bytes, ◌≡◌};
+ghost use Rattle.sim_embed.specs.{Causes.IsNoMatch, Causes.IsNoStateOf, Facts.IsStamp, Facts.IsStored, Facts.entity_of};
+ghost use Rattle.{sim_base.specs.Turn.first_state as first_state_of, sim_embed.specs.Bytes.OfMatch, sim_embed.specs.Bytes.OfState};
+ghost use Rattle.{sim_held.specs.Games.PlaysGame, sim_held.specs.Games.PlaysOwnTurns, sim_report.specs.Show.show_text};
 
 use crate::boards::{after_own, after_turn, first_state};
 use crate::copying::copy_of;

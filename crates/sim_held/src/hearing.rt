@@ -1,10 +1,10 @@
 //! What a client that is held hears: over its stage, its outbox and its match.
 
-ghost use Rattle.{sim_base.specs.Limits.IsSetup, sim_base.specs.declared.setup.Setup.Setup as AnySetup};
-ghost use Rattle.sim_base.specs.declared.state.State.{State as AnyState};
-ghost use Rattle.std.specs.Prelude.{◌≡◌, false, OnOk, IfOk, IsOk, None, Ok, Option};
-ghost use Rattle.sim_client.specs.{ClientWords.LoadsAt, ClientWords.LoadsFrom, ClientWords.may_load, ClientWords.NeedsNoMemory, Lives.hears, Lives.Joining, Lives.loads, Lives.refused};
-ghost use Rattle.sim_held.specs.{Acting.GoesSilently, Acting.IsOn, Clients.Goes, Clients.IsPlaced, Clients.IsStage, Clients.life_at};
+ghost use Rattle.std.specs.Prelude.{false, IfOk, IsOk, None, Ok, OnOk, Option, ◌≡◌};
+ghost use Rattle.sim_base.specs.{Limits.IsSetup, declared.setup.Setup.Setup as AnySetup, declared.state.State.State as AnyState};
+ghost use Rattle.sim_client.specs.ClientWords.{LoadsAt, LoadsFrom, may_load, NeedsNoMemory};
+ghost use Rattle.sim_client.specs.Lives.{hears, Joining, loads, refused};
+ghost use Rattle.sim_held.specs.Clients.{Goes, GoesSilently, IsOn, IsPlaced, IsStage, life_at};
 
 use crate::acting::say;
 use crate::outbox::Outbox;

@@ -1,7 +1,7 @@
 //! The frames of what a client says, one behind another, until they are sent.
 
-ghost use Rattle.{sim_held.specs.Clients.frames_of, sim_wire.specs.Fits.IsSmallUp, sim_wire.specs.Frames.up_frame, std.specs.List.flat_map};
-ghost use Rattle.std.specs.Prelude.{[], ◌++◌, ◌≡◌, All, IsOk, OnOk};
+ghost use Rattle.std.specs.{List.flat_map, Prelude.All, Prelude.IsOk, Prelude.OnOk, Prelude.[], Prelude.◌++◌, Prelude.◌≡◌};
+ghost use Rattle.{sim_held.specs.Clients.frames_of, sim_wire.specs.Reading.IsSmallUp, sim_wire.specs.Reading.up_frame};
 
 use sim_base::OutOfMemory;
 use sim_wire::{Up, frame_up};

@@ -1,7 +1,7 @@
 //! A client that plays, apart from what is held: what is held stands as cut off until it is put back.
 
 ghost use Rattle.std.specs.Prelude.{◌≡◌};
-ghost use Rattle.sim_held.specs.{Acting.may_run, Clients.life_at, Playing.TakesOut, declared.stage.Stage.TheVariants.On as at_turn};
+ghost use Rattle.sim_held.specs.{Clients.TakesOut, Clients.life_at, Clients.may_run, declared.stage.Stage.TheVariants.On as at_turn};
 
 use crate::outbox::Outbox;
 use crate::stage::Stage;

@@ -1,10 +1,11 @@
 //! Bytes that a client is given: a command that its player gives, and a frame of the server.
 
-ghost use Rattle.{serde_json.specs.View.view, sim_base.specs.Limits.HasFewIds, sim_base.specs.declared.state.State.State as AnyState};
-ghost use Rattle.std.specs.{Str.is_utf8, Prelude.◌≡◌, Prelude.true, Prelude.false, Prelude.IfOk, Prelude.IfSome, Prelude.IsErr, Prelude.IsOk, Prelude.OnOk, Prelude.None, Prelude.Ok, Prelude.Option, Prelude.option_map};
-ghost use Rattle.sim_client.specs.{ClientWords.LoadsFrom, ClientWords.may_load, ClientWords.NeedsNoMemory, Lives.hears, Lives.orders, Lives.Told};
-ghost use Rattle.sim_held.specs.{Acting.Heeds, Clients.command_in, Clients.Goes, Clients.IsPlaced, Clients.IsStage, Clients.life_at, Clients.Stays, Hearing.brings_state as brings_state_by, Hearing.goes_by};
-ghost use Rattle.sim_wire.specs.{Fits.IsDownFrame, Memory.down_carries};
+ghost use Rattle.std.specs.Prelude.{false, IfOk, IfSome, IsErr, IsOk, None, Ok, OnOk, Option, option_map, true, ◌≡◌};
+ghost use Rattle.std.specs.Str.{is_utf8};
+ghost use Rattle.sim_client.specs.{ClientWords.LoadsFrom, ClientWords.NeedsNoMemory, ClientWords.may_load, Lives.Told, Lives.hears, Lives.orders};
+ghost use Rattle.sim_held.specs.Clients.{command_in, Goes, Heeds, IsPlaced, IsStage, life_at, Stays};
+ghost use Rattle.{serde_json.specs.View.view, sim_base.specs.declared.state.State.State as AnyState, sim_held.specs.Hearing.brings_state as brings_state_by};
+ghost use Rattle.{sim_base.specs.Limits.HasFewIds, sim_held.specs.Hearing.goes_by, sim_wire.specs.Memory.down_carries, sim_wire.specs.Reading.IsDownFrame};
 
 use crate::acting::give;
 use crate::hearing::hear;

@@ -1,9 +1,9 @@
 //! The turn server that is held.
 
-ghost use Rattle.sim_embed.specs.{Bytes.OfMatch, Causes.IsNoMatch};
+ghost use Rattle.std.specs.Prelude.{[], false, IfErr, IfOk, IsOk, List, nat_le, nat_lt, OnErr, Option, true, ℕ, ◌&&◌, ◌≡◌, ◌≤◌};
 ghost use Rattle.sim_held.specs.Servers.{Answers, CutsOff, frames_for, HasLost, Hears, HearsFrame, is_client as is_client_of, IsServer, IsServerOf, Leaves};
-ghost use Rattle.{sim_held.specs.Servers.waiting, sim_plain.specs.Messages.Heard, sim_server.specs.Standing.server_of, sim_wire.specs.Fits.IsSmallUp};
-ghost use Rattle.std.specs.Prelude.{[], ◌&&◌, ◌≡◌, ◌≤◌, false, IfErr, IfOk, IsOk, List, nat_le, nat_lt, OnErr, Option, true, ℕ};
+ghost use Rattle.{sim_embed.specs.Bytes.OfMatch, sim_embed.specs.Causes.IsNoMatch, sim_held.specs.Servers.waiting, sim_plain.specs.Messages.Heard};
+ghost use Rattle.{sim_server.specs.Standing.server_of, sim_wire.specs.Reading.IsSmallUp};
 
 use crate::stage::Went;
 use crate::waiting::{frames_to, keep, leave};

@@ -1,9 +1,9 @@
 //! The turns that a client plays on a board, with what it says of each in its outbox.
 
-ghost use Rattle.{sim_board.specs.BoardWords.setup_in, sim_board.specs.BoardWords.state_in, sim_client.specs.Lives.On, sim_client.specs.StageWords.IsPlaying, sim_client.specs.StageWords.player_at};
-ghost use Rattle.std.specs.Prelude.{◌≡◌, ◌++◌, OnOk, IfOk, All};
-ghost use Rattle.sim_client.specs.Lives.{plays};
-ghost use Rattle.sim_held.specs.{Clients.frames_of, Runs.goes_on, Runs.runs, Turns.PlaysOnce, Turns.RanOn};
+ghost use Rattle.std.specs.Prelude.{All, IfOk, OnOk, ◌++◌, ◌≡◌};
+ghost use Rattle.sim_board.specs.Boards.{setup_in, state_in};
+ghost use Rattle.sim_client.specs.{Lives.On, Lives.plays, StageWords.IsPlaying, StageWords.player_at};
+ghost use Rattle.sim_held.specs.Clients.{frames_of, goes_on, PlaysOnce, RanOn, runs};
 
 use crate::playing::Playing;
 use sim_base::{OutOfMemory, Setup};

@@ -1,10 +1,10 @@
 //! What waits for the clients of a server: the posts of each arrival, as they were made, until each client has taken its own. Frames are
 //! made as they are taken.
 
-ghost use Rattle.sim_held.specs.Servers.{AreSmall, frames_for, has_some as has_some_of, waiting, WaitsForClients};
-ghost use Rattle.{sim_pipes.specs.Posts.told_to, sim_server.specs.Standing.View, sim_wire.specs.Fits.IsSmallDown, sim_wire.specs.Frames.down_frame};
 ghost use Rattle.std.specs.List.{flat_map};
-ghost use Rattle.std.specs.Prelude.{[], if◌then◌else◌, ◌++◌, ◌<◌, ◌==◌, ◌∷◌, ◌≡◌, ◌≤◌, All, filter, IfOk, IsOk, map, not, OnOk, vec_capacity, vec_len, ℕ};
+ghost use Rattle.std.specs.Prelude.{[], All, filter, IfOk, if◌then◌else◌, IsOk, map, not, OnOk, vec_capacity, vec_len, ℕ, ◌++◌, ◌<◌, ◌==◌, ◌∷◌, ◌≡◌, ◌≤◌};
+ghost use Rattle.sim_held.specs.Servers.{AreSmall, WaitsForClients, frames_for, has_some as has_some_of, waiting};
+ghost use Rattle.{sim_pipes.specs.Posts.told_to, sim_server.specs.Standing.View, sim_wire.specs.Reading.IsSmallDown, sim_wire.specs.Reading.down_frame};
 
 use sim_base::{Items, OutOfMemory};
 use sim_server::{Post, Posts};
@@ -21,7 +21,7 @@ fn push_frame(alloc: Global, out: &mut Vec<u8>, down: &Down) -> Result<(), OutOf
 }
 
 // Appends the frame of a post, if it is to this client.
-#[tactic(auto, using(crate::proofs::Frames::flat_map_one))]
+#[tactic(auto, using(crate::proofs::Waits::flat_map_one))]
 fn push_post(alloc: Global, out: &mut Vec<u8>, to: u8, post: &Post) -> Result<(), OutOfMemory>
     requires { IsSmallDown post.now.down }
     ensures frames { OnOk result (out.new.items ≡ out.old.items ++ flat_map down_frame (told_to to (post.now ∷ []))) }

@@ -1,7 +1,7 @@
 -- What is known where a reader answers a value: each step of it has answered one.
+use Rattle.sim_json.specs.{Commands.next_or, Values.if_within, Values.natural, Values.natural_at, Values.natural_in}
+use Rattle.std.proofs.Common.{Bool, false, if◌then◌else◌, List, nat_le, None, Option, option_and_then, option_map, refl, Some, subst, true, ℕ, ◌&&◌, ◌≡◌, ◌≤◌}
 use Rattle.{serde_json.specs.Data.Data, serde_json.specs.Find.get, std.proofs.lemmas.Bool.and_parts, std.proofs.lemmas.Bool.leb-true}
-use Rattle.std.proofs.Common.{◌≡◌, ℕ, ◌≤◌, Bool, true, false, ◌&&◌, List, if◌then◌else◌, nat_le, Some, None, Option, option_map, option_and_then, refl, subst}
-use Rattle.sim_json.specs.{Records.next_or, Values.if_within, Values.natural, Values.natural_at, Values.natural_in}
 
 pub next_some : {X Y : Type 0} (o : Option X) (next : X → Option Y) (y : Y) → next_or o None next ≡ Some y → (x : X) × (o ≡ Some x) × (next x ≡ Some y)
 next_some None next y e = absurd cc

@@ -1,9 +1,27 @@
 -- Commands as lists of JSON: a kind, and what follows it. Whether an id or a template is there is not asked here.
-use Rattle.{sim_base.specs.declared.command.Command.Command, sim_base.specs.declared.place.Point.Point, std.specs.Str.bytes_eq}
-use Rattle.std.specs.Prelude.{ℕ, ◌-◌, ◌^◌, List, [], ◌∷◌, length, if◌then◌else◌, nat_le, Some, None, codes, Option, option_map, option_and_then}
-use Rattle.serde_json.specs.{Data.Data, Find.as_str}
 use Rattle.sim_base.specs.declared.command.Command.TheVariants.{Attack, Delete, Place, Resign, Stop, Train, Walk}
-use Rattle.sim_json.specs.{Records.next_or, Records.records, Values.fixed, Values.list_of, Values.natural_in, Values.two}
+use Rattle.std.specs.Prelude.{[], Bool, codes, Err, false, if◌then◌else◌, is_some, length, List, nat_le, None, Ok, Option, option_and_then, option_map, Result}
+use Rattle.std.specs.{Prelude.Some, Prelude.ℕ, Prelude.◌&&◌, Prelude.◌++◌, Prelude.◌-◌, Prelude.◌^◌, Prelude.◌∷◌, Prelude.◌≡◌, Str.bytes_eq}
+use Rattle.{serde_json.specs.Data.Data, serde_json.specs.Find.as_str, sim_json.specs.Values.fixed, sim_json.specs.Values.list_of, sim_json.specs.Values.two}
+use Rattle.{sim_base.specs.declared.command.Command.Command, sim_base.specs.declared.place.Point.Point, sim_json.specs.Values.natural_in, std.specs.Prelude.◌+◌}
+
+-- Lists of records. An item is read beside the records of the items before it; what it may not be beside them, it is
+-- refused for.
+
+-- what comes next, where there is a value, or else an answer
+abbrev pub next_or : {X Y : Type 0} → Option X → Y → (X → Y) → Y
+next_or None y next = y
+next_or (Some x) y next = next x
+
+-- the records of the items behind those that are done, if each item is read
+abbrev pub records : {X D : Type 0} → (List X → D → Option X) → List X → List D → Option (List X)
+records read done [] = Some done
+records read done (d ∷ ds) = next_or (read done d) None (λ x. records read (done ++ x ∷ []) ds)
+
+-- the same, or the number of the first item that is refused
+abbrev pub numbered : {X D : Type 0} → (List X → D → Option X) → List X → List D → Result (List X) ℕ
+numbered read done [] = Ok done
+numbered read done (d ∷ ds) = next_or (read done d) (Err (length done)) (λ x. numbered read (done ++ x ∷ []) ds)
 
 -- the id of an entity, be it there or not
 abbrev pub id_in : Data → Option ℕ
@@ -78,3 +96,59 @@ command_by kind rest =
 unfoldable pub command_of : List Data → Option Command
 command_of [] = None
 command_of (kind ∷ rest) = next_or (as_str kind) None (λ kind. command_by kind rest)
+
+-- Which commands ask for memory while they are read. Ids alone do; so whatever else is wrong with a command is found
+-- without memory.
+
+-- the first of some items is an id
+abbrev pub begins_with_id : List Data → Bool
+begins_with_id [] = false
+begins_with_id (d ∷ ds) = is_some (id_in d)
+
+-- memory is asked for where there are at most 256 items and the first is an id
+abbrev pub items_take : List Data → Bool
+items_take ds = nat_le (length ds) 256 && begins_with_id ds
+
+-- the same of the items of a list
+abbrev pub ids_take : Data → Bool
+ids_take d = next_or (list_of d) false items_take
+
+-- where ids stand alone behind the kind
+abbrev pub alone_take : List Data → Bool
+alone_take (ids ∷ []) = ids_take ids
+alone_take other = false
+
+-- where ids and a target do
+abbrev pub aimed_take : List Data → Bool
+aimed_take rest = next_or (two rest) false (λ p. ids_take p.0)
+
+-- where ids and a point do
+abbrev pub sent_take : List Data → Bool
+sent_take rest = next_or (three rest) false (λ p. ids_take p.0)
+
+-- a command asks for memory by its kind, where it has ids
+abbrev pub kind_takes : List ℕ → List Data → Bool
+kind_takes kind rest =
+    if bytes_eq kind (codes "walk") then sent_take rest
+    else if bytes_eq kind (codes "stop") then alone_take rest
+    else if bytes_eq kind (codes "attack") then aimed_take rest
+    else if bytes_eq kind (codes "delete") then alone_take rest
+    else false
+
+-- the same from its kind on
+unfoldable pub command_takes : List Data → Bool
+command_takes [] = false
+command_takes (kind ∷ rest) = next_or (as_str kind) false (λ kind. kind_takes kind rest)
+
+-- What the number of a refusal says.
+
+-- the items before the i-th are read, and the i-th is not, beside their records
+pub record IsLeast {X D : Type 0} (read : List X → D → Option X) (done : List X) (ds : List D) (i : ℕ) : Type 0 where
+  pub front : List D
+  pub refused : D
+  pub back : List D
+  pub made : List X
+  pub whole : ds ≡ front ++ refused ∷ back
+  pub place : i ≡ length done + length front
+  pub reads : numbered read done front ≡ Ok made
+  pub none : read made refused ≡ None

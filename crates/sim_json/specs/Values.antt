@@ -1,8 +1,9 @@
 -- Values of JSON: what a text stands for, and the lists, texts and whole numbers in it.
-use Rattle.{serde_json.specs.Read.read, sim_base.specs.NumberText.in_range, sim_base.specs.NumberText.number_of, sim_base.specs.Numbers.unit}
-use Rattle.std.specs.Prelude.{ℕ, ◌&&◌, List, [], ◌∷◌, ℤ, pos, ◌*ℤ◌, is_some, if◌then◌else◌, nat_le, Some, None, Option, option_map, option_and_then}
-use Rattle.std.specs.Str.{is_utf8}
-use Rattle.serde_json.specs.{Data.Data, Data.item, Data.Items, Data.no_items, Find.as_array, Find.as_i64, Find.as_number, Find.as_str, Find.as_u64, Find.get}
+use Rattle.serde_json.specs.{Data.Data, Data.Items, Data.item, Data.no_items, Find.as_array, Find.as_i64, Find.as_integer, Find.as_number, Find.as_str}
+use Rattle.serde_json.specs.{Find.as_u64, Find.get, Read.read}
+use Rattle.sim_base.specs.{NumberText.in_range, NumberText.number_of, Places.unit}
+use Rattle.std.specs.Prelude.{[], Bool, false, if◌then◌else◌, is_some, length, List, nat_le, None, Option, option_and_then, option_map, pos, Some, ℕ, ℤ, ◌&&◌}
+use Rattle.std.specs.{List.list_all, Prelude.◌*ℤ◌, Prelude.◌==◌, Prelude.◌∷◌, Str.is_utf8}
 
 -- the value of a text, where the bytes are UTF-8 and a text that has one
 abbrev pub value_of : List ℕ → Option Data
@@ -63,3 +64,40 @@ four other = None
 abbrev pub front_two : List Data → Option (Data × Data × List Data)
 front_two (a ∷ b ∷ rest) = Some (a, b, rest)
 front_two other = None
+
+-- Kinds of values: whole numbers, lists, and lists of lists of whole numbers. What a number is at most is no matter of
+-- its kind.
+
+-- a whole number, also one below 0
+abbrev pub is_whole : Data → Bool
+is_whole d = is_some (option_and_then as_integer (as_number d))
+
+-- a list
+abbrev pub is_list : Data → Bool
+is_list d = is_some (as_array d)
+
+-- a value is there and of its kind
+abbrev pub fits : (Data → Bool) → Option Data → Bool
+fits kind None = false
+fits kind (Some d) = kind d
+
+-- a list is there and passes a test
+abbrev pub fits_list : (List Data → Bool) → Option (List Data) → Bool
+fits_list test None = false
+fits_list test (Some ds) = test ds
+
+-- a list of whole numbers
+abbrev pub is_row : Data → Bool
+is_row d = fits_list (list_all is_whole) (list_of d)
+
+-- a list of so many whole numbers
+abbrev pub is_row_of : ℕ → Data → Bool
+is_row_of n d = fits_list (λ ds. (length ds == n) && list_all is_whole ds) (list_of d)
+
+-- a list of lists of whole numbers
+abbrev pub is_table : Data → Bool
+is_table d = fits_list (list_all is_row) (list_of d)
+
+-- a list of lists of so many whole numbers
+abbrev pub is_table_of : ℕ → Data → Bool
+is_table_of n d = fits_list (list_all (is_row_of n)) (list_of d)

@@ -1,11 +1,11 @@
 //! Commands by their kinds. Each reader is handed what follows the kind.
 
-ghost use Rattle.{serde_json.specs.View.view, sim_base.specs.Limits.HasFewIds, sim_json.specs.Commands.walk_from as walk_from_data};
-ghost use Rattle.std.specs.Prelude.{◌≡◌, true, map, IfSome, IfOk, IfErr, option_map};
-ghost use Rattle.sim_json.specs.Commands.{attack_from as attack_from_data, command_by as command_by_kind, command_of as command_of_data};
-ghost use Rattle.sim_json.specs.Commands.{delete_from as delete_from_data, place_from as place_from_data, point_of as point_of_data};
-ghost use Rattle.sim_json.specs.Commands.{resign_from as resign_from_data, stop_from as stop_from_data, three as three_of, train_from as train_from_data};
-ghost use Rattle.sim_json.specs.Memory.{aimed_take, alone_take, command_takes, kind_takes, sent_take};
+ghost use Rattle.std.specs.Prelude.{IfErr, IfOk, IfSome, map, option_map, true, ◌≡◌};
+ghost use Rattle.sim_json.specs.Commands.{aimed_take, alone_take, attack_from as attack_from_data, command_by as command_by_kind};
+ghost use Rattle.sim_json.specs.Commands.{command_of as command_of_data, command_takes, delete_from as delete_from_data, kind_takes};
+ghost use Rattle.sim_json.specs.Commands.{place_from as place_from_data, point_of as point_of_data, resign_from as resign_from_data, sent_take};
+ghost use Rattle.sim_json.specs.Commands.{stop_from as stop_from_data, three as three_of, train_from as train_from_data, walk_from as walk_from_data};
+ghost use Rattle.{serde_json.specs.View.view, sim_base.specs.Limits.HasFewIds, sim_json.specs.Readers.Reads, sim_json.specs.Readers.ReadsLight};
 
 use crate::ids::{id_in, ids_of, template_in};
 use crate::{fixed, two};
@@ -14,7 +14,7 @@ use sim_base::{Command, OutOfMemory, Point};
 use std::alloc::Global;
 
 /// The command that a list spells, from its kind on, or None where it spells none.
-#[tactic(auto, unfolding(crate::specs::Commands::command_of, crate::specs::Memory::command_takes))]
+#[tactic(auto, unfolding(crate::specs::Commands::command_of, crate::specs::Commands::command_takes))]
 pub fn command_of(alloc: Global, items: &[Value]) -> Result<Option<Command>, OutOfMemory>
     ensures value { IfOk result (λ command. command ≡ command_of_data (map view items.now)) }
     ensures few { IfOk result (λ found. IfSome found HasFewIds) }
@@ -30,9 +30,7 @@ pub fn command_of(alloc: Global, items: &[Value]) -> Result<Option<Command>, Out
 }
 
 fn command_by(alloc: Global, kind: &str, rest: &[Value]) -> Result<Option<Command>, OutOfMemory>
-    ensures value { IfOk result (λ command. command ≡ command_by_kind kind.now (map view rest.now)) }
-    ensures few { IfOk result (λ found. IfSome found HasFewIds) }
-    ensures memory { IfErr result (λ fault. kind_takes kind.now (map view rest.now) ≡ true) }
+    ensures { Reads result (command_by_kind kind.now (map view rest.now)) (kind_takes kind.now (map view rest.now)) }
 {
     if kind == "walk" {
         return walk_from(alloc, rest);
@@ -59,9 +57,7 @@ fn command_by(alloc: Global, kind: &str, rest: &[Value]) -> Result<Option<Comman
 }
 
 fn walk_from(alloc: Global, rest: &[Value]) -> Result<Option<Command>, OutOfMemory>
-    ensures value { IfOk result (λ command. command ≡ walk_from_data (map view rest.now)) }
-    ensures few { IfOk result (λ found. IfSome found HasFewIds) }
-    ensures memory { IfErr result (λ fault. sent_take (map view rest.now) ≡ true) }
+    ensures { Reads result (walk_from_data (map view rest.now)) (sent_take (map view rest.now)) }
 {
     let Some((ids, x, z)) = three(rest) else {
         return Ok(None);
@@ -76,9 +72,7 @@ fn walk_from(alloc: Global, rest: &[Value]) -> Result<Option<Command>, OutOfMemo
 }
 
 fn stop_from(alloc: Global, rest: &[Value]) -> Result<Option<Command>, OutOfMemory>
-    ensures value { IfOk result (λ command. command ≡ stop_from_data (map view rest.now)) }
-    ensures few { IfOk result (λ found. IfSome found HasFewIds) }
-    ensures memory { IfErr result (λ fault. alone_take (map view rest.now) ≡ true) }
+    ensures { Reads result (stop_from_data (map view rest.now)) (alone_take (map view rest.now)) }
 {
     match rest {
         [ids] => {
@@ -92,9 +86,7 @@ fn stop_from(alloc: Global, rest: &[Value]) -> Result<Option<Command>, OutOfMemo
 }
 
 fn attack_from(alloc: Global, rest: &[Value]) -> Result<Option<Command>, OutOfMemory>
-    ensures value { IfOk result (λ command. command ≡ attack_from_data (map view rest.now)) }
-    ensures few { IfOk result (λ found. IfSome found HasFewIds) }
-    ensures memory { IfErr result (λ fault. aimed_take (map view rest.now) ≡ true) }
+    ensures { Reads result (attack_from_data (map view rest.now)) (aimed_take (map view rest.now)) }
 {
     let Some((ids, target)) = two(rest) else {
         return Ok(None);
@@ -109,9 +101,7 @@ fn attack_from(alloc: Global, rest: &[Value]) -> Result<Option<Command>, OutOfMe
 }
 
 fn delete_from(alloc: Global, rest: &[Value]) -> Result<Option<Command>, OutOfMemory>
-    ensures value { IfOk result (λ command. command ≡ delete_from_data (map view rest.now)) }
-    ensures few { IfOk result (λ found. IfSome found HasFewIds) }
-    ensures memory { IfErr result (λ fault. alone_take (map view rest.now) ≡ true) }
+    ensures { Reads result (delete_from_data (map view rest.now)) (alone_take (map view rest.now)) }
 {
     match rest {
         [ids] => {
@@ -125,8 +115,7 @@ fn delete_from(alloc: Global, rest: &[Value]) -> Result<Option<Command>, OutOfMe
 }
 
 fn place_from(rest: &[Value]) -> Option<Command>
-    ensures value { result ≡ place_from_data (map view rest.now) }
-    ensures few { IfSome result HasFewIds }
+    ensures { ReadsLight result (place_from_data (map view rest.now)) }
 {
     let (template, x, z) = three(rest)?;
     let template = template_in(template)?;
@@ -135,8 +124,7 @@ fn place_from(rest: &[Value]) -> Option<Command>
 }
 
 fn train_from(rest: &[Value]) -> Option<Command>
-    ensures value { result ≡ train_from_data (map view rest.now) }
-    ensures few { IfSome result HasFewIds }
+    ensures { ReadsLight result (train_from_data (map view rest.now)) }
 {
     let (building, template) = two(rest)?;
     let building = id_in(building)?;
@@ -145,8 +133,7 @@ fn train_from(rest: &[Value]) -> Option<Command>
 }
 
 fn resign_from(rest: &[Value]) -> Option<Command>
-    ensures value { result ≡ resign_from_data (map view rest.now) }
-    ensures few { IfSome result HasFewIds }
+    ensures { ReadsLight result (resign_from_data (map view rest.now)) }
 {
     match rest {
         [] => Some(Command::Resign),

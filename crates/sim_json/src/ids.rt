@@ -1,8 +1,8 @@
 //! Ids of entities and numbers of templates, be they there or not.
 
-ghost use Rattle.{serde_json.specs.View.view, sim_json.specs.Memory.ids_take, sim_json.specs.Memory.items_take};
-ghost use Rattle.std.specs.Prelude.{◌≡◌, ◌≤◌, true, map, length, IfSome, IfOk, IfErr};
-ghost use Rattle.sim_json.specs.Commands.{id_in as id_in_data, ids_from as ids_from_data, ids_of as ids_of_data, template_in as template_in_data};
+ghost use Rattle.std.specs.Prelude.{IfErr, IfOk, IfSome, length, map, true, ◌≡◌, ◌≤◌};
+ghost use Rattle.sim_json.specs.Commands.{id_in as id_in_data, ids_from as ids_from_data, ids_of as ids_of_data, ids_take, items_take};
+ghost use Rattle.{serde_json.specs.View.view, sim_json.specs.Commands.template_in as template_in_data};
 
 use crate::{list_of, natural_in};
 use serde_json::Value;

@@ -1,10 +1,10 @@
 -- The phase in which fighters hit keeps a state loosely valid. Which rows come out of it does not hang on the word.
-use Rattle.std.{proofs.Common.◌^◌, proofs.Common.append_assoc, proofs.lemmas.Int.clamps, proofs.lemmas.Nat.mod_below, specs.Int.int_max}
-use Rattle.sim_base.specs.Hit.{fights, Hit, Hitting, hitting, hurt, rests, strikes, strikes_near, taken_from, with_cooldown}
-use Rattle.sim_laws.proofs.{Removing.same_stays, RowWise.mapped_is_state, RowWise.Stays, Rows.map-map}
-use Rattle.sim_laws.proofs.Common.{fold, Option, option_map, option_and_then, refl, Aim, ap, append-nil, arith, Arms, arms_of, Both, cond_both, hit, ints}
-use Rattle.sim_laws.proofs.Common.{is_near, IsLooselyValid, IsState, IsValidAim, IsValidRow, Row, row_of, Setup, State, subst, sym, Template, template_of, ◌∙◌}
-use Rattle.sim_laws.proofs.Common.{◌≡◌, ℕ, ◌+◌, ◌-◌, ◌*◌, ◌<◌, ◌≤◌, Bool, true, false, cond, List, [], ◌∷◌, ◌++◌, map, ℤ, pos, ◌-ℤ◌, ◌≤ℤ◌, ◌==◌, Some, None}
+use Rattle.sim_base.specs.Turn.{fights, Hit, Hitting, hitting, hurt, rests, strikes, strikes_near, taken_from, with_cooldown}
+use Rattle.sim_laws.proofs.Common.{IsState, IsValidAim, IsValidRow, List, map, None, Option, option_and_then, option_map, pos, refl, Row, row_of, Setup, Some}
+use Rattle.sim_laws.proofs.Common.{State, Template, subst, sym, template_of, true, ℕ, ℤ, ◌*◌, ◌++◌, ◌+◌, ◌-ℤ◌, ◌-◌, ◌<◌, ◌==◌, ◌∙◌, ◌∷◌, ◌≡◌, ◌≤ℤ◌, ◌≤◌}
+use Rattle.sim_laws.proofs.Common.{[], Aim, ap, append-nil, arith, Arms, arms_of, Bool, Both, cond, cond_both, false, fold, hit, ints, is_near, IsLooselyValid}
+use Rattle.sim_laws.proofs.{Removing.same_stays, Validity.Stays, Validity.map-map, Validity.mapped_is_state}
+use Rattle.std.{proofs.Common.append_assoc, proofs.Common.◌^◌, proofs.lemmas.Int.clamps, proofs.lemmas.Nat.mod_below, specs.Int.int_max}
 
 -- ---- what the phase makes of a row before it is hurt
 

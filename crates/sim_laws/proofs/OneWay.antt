@@ -1,7 +1,7 @@
 -- The definition of a way determines it.
-use Rattle.{sim_laws.proofs.Ground.same_by_parts, sim_laws.proofs.Keys.same_key, sim_laws.specs.WayLaws.WayIsUnique, std.proofs.lemmas.Bool.cases_order}
-use Rattle.sim_laws.proofs.Common.{first_points, IsCost, IsEnd, IsFound, IsPredecessor, IsTrail, neighbour, same_cell, subst, sym, waypoints, ⊎_elim, ◌∙◌}
-use Rattle.sim_laws.proofs.Common.{◌≡◌, ℕ, ◌<◌, Bool, true, false, ◌⊎◌, List, [], ◌∷◌, reverse, Some, MatchBool, refl, ap, arith, Cell, cell_of, end_key, Field}
+use Rattle.sim_laws.proofs.Common.{List, MatchBool, Some, neighbour, refl, reverse, same_cell, subst, sym, true, waypoints, ℕ, ⊎_elim, ◌<◌, ◌∙◌, ◌∷◌, ◌≡◌, ◌⊎◌}
+use Rattle.sim_laws.proofs.Common.{[], ap, arith, Bool, Cell, cell_of, end_key, false, Field, first_points, IsCost, IsEnd, IsFound, IsPredecessor, IsTrail}
+use Rattle.{sim_laws.proofs.Keys.same_key, sim_laws.proofs.Neighbours.same_by_parts, sim_laws.specs.WayLaws.WayIsUnique, std.proofs.lemmas.Bool.cases_order}
 
 module _ (field : Field) (start : Cell) where
   pub cost_unique : (c : Cell) (d e : ℕ) → IsCost field start c d → IsCost field start c e → d ≡ e

@@ -1,12 +1,15 @@
 -- A state stays valid where a row is removed. Where all rows whose health is spent are removed, the state is valid again.
-use Rattle.std.proofs.lemmas.List.Kept.{IsStrictlyIncreasing-filter}
-use Rattle.sim_base.specs.{Changes.aimed_at, Changes.halted, Changes.with_stance, Hit.gone, Hit.is_spent}
-use Rattle.sim_laws.proofs.{Common.target_of, Common.Template, Common.⊎_elim, Common.◌∙◌, Members.Has, Members.Has-map, Members.Has-of_map, RowWise.Stays}
-use Rattle.sim_laws.proofs.Common.{IsValidMotion, IsValidRow, length-map, Motion, ne_eqb, not-true, released, removed, Row, Setup, State, Still, subst, sym}
-use Rattle.sim_laws.proofs.Common.{Some, None, fold, filter, Option, unwrap_or, option_map, refl, Aim, All-map, ap, arith, Arms, Both, cond_both, eqb-false}
-use Rattle.sim_laws.proofs.Common.{has_health, id_of, inl, inr, ints, IsKnownRow, IsLooselyValid, IsState, IsStrictlyIncreasing, IsValid, IsValidAim}
-use Rattle.sim_laws.proofs.Common.{◌≡◌, ℕ, ◌<◌, ◌≤◌, Bool, true, false, cond, not, ◌≢◌, ◌⊎◌, List, [], ◌∷◌, map, length, ℤ, pos, ◌≤ℤ◌, is_some, IsTrue, ◌==◌}
-use Rattle.sim_laws.proofs.Rows.{all_at, all_from, Has-filter, Has-of_filter, has_health_of, known_row, map-map, map_agree, of_has_health, row_known}
+use Rattle.sim_base.specs.Turn.{choices, gone, is_idle, is_spent, lets_go, looking, may_take, square_to, target_for, with_releases, with_targets}
+use Rattle.sim_base.specs.{Commands.aimed_at, Commands.halted, Commands.seen, Commands.with_stance, Commands.within, Ways.lesser_of}
+use Rattle.sim_laws.proofs.Common.{IsStrictlyIncreasing, IsTrue, IsValid, IsValidAim, IsValidMotion, IsValidRow, least_of, length, length-map, List, map}
+use Rattle.sim_laws.proofs.Common.{Motion, nat_list_cmp_total, ne_eqb, None, not, not-true, Option, option_map, pos, refl, released, removed, Row, row_of}
+use Rattle.sim_laws.proofs.Common.{Setup, Some, State, Still, subst, sym, target_of, Template, true, unwrap_or, ℕ, ℤ, ⊎_elim, ◌&&◌, ◌<◌, ◌==◌, ◌∙◌, ◌∷◌, ◌≡◌}
+use Rattle.sim_laws.proofs.Common.{[], Aim, aimed, All-map, and_parts, ap, arith, Arms, arms_of, Bool, Both, cond, cond_both, enemies_of, eqb-false, false}
+use Rattle.sim_laws.proofs.Common.{filter, fold, has_health, id_of, in_mask, inl, inr, ints, is_before, is_near, is_some, IsKnownRow, IsLooselyValid, IsState}
+use Rattle.sim_laws.proofs.Validity.{all_at, all_from, Has-filter, Has-of_filter, has_health_of, known_row, map-map, map_agree, mapped_is_state, of_has_health}
+use Rattle.sim_laws.proofs.{Common.◌≢◌, Common.◌≤ℤ◌, Common.◌≤◌, Common.◌⊎◌, Neighbours.Has, Neighbours.Has-map, Neighbours.Has-of_map, Validity.Stays}
+use Rattle.std.proofs.lemmas.{List.Kept.IsStrictlyIncreasing-filter, List.MinMax.ranks_by, Map.Entries.option_filter}
+use Rattle.{sim_laws.proofs.Validity.row_known, std.specs.Cmp.IsStrictWeakOrder}
 
 -- ---- rows that take another target, stand still, or are released
 
@@ -285,3 +288,160 @@ module _ (setup : Setup) (state : State) (loose : IsLooselyValid setup state) wh
             (λ row h. unspent_row setup (gone state).rows row (unspent row h)
             (all_at (IsKnownRow 0 setup (gone state).rows) (gone state).rows row left_valid.rows h));
       }
+
+-- The least member of a list by a key: it is a member, and no member's key comes before its own. Among the members that pass a
+-- test which all members before one that passes pass too, it is the least of all, or there is none.
+
+module _ {X : Type 0} (key : X → List ℕ) where
+  order : IsStrictWeakOrder (λ (x y : X). is_before (key x) (key y))
+  order = ranks_by nat_list_cmp_total key
+
+  -- r is a member, and no member's key comes before its key
+  pub record IsLeast (xs : List X) (r : X) : Type 0 where
+    pub member : Has xs r
+    pub least : (y : X) → Has xs y → is_before (key y) (key r) ≡ false
+
+  itself : (x : X) → is_before (key x) (key x) ≡ false
+  itself x = by (is_before (key x) (key x)) refl
+    where
+      by : (b : Bool) → is_before (key x) (key x) ≡ b → is_before (key x) (key x) ≡ false
+      by true e = order.one_way x x e
+      by false e = e
+
+  least_from : (best : X) (xs : List X) → (r : X) × (fold (λ b x. Some (lesser_of key b x)) (Some best) xs ≡ Some r) × IsLeast (best ∷ xs) r
+  least_from best [] = (best, refl, record { member = inl refl; least = alone })
+    where
+      alone : (y : X) → (best ≡ y) ⊎ ⊥ → is_before (key y) (key best) ≡ false
+      alone y (inl e) = rw (← e) (itself best)
+      alone y (inr h) = absurd h
+  least_from best (x ∷ xs) = by (is_before (key x) (key best)) refl (least_from x xs) (least_from best xs)
+    where
+      Result : X → Type 0
+      Result b = (r : X) × (fold (λ c y. Some (lesser_of key c y)) (Some b) xs ≡ Some r) × IsLeast (b ∷ xs) r
+
+      by : (b : Bool) → is_before (key x) (key best) ≡ b → Result x → Result best → (r : X)
+          × (fold (λ c y. Some (lesser_of key c y)) (Some (cond b x best)) xs ≡ Some r) × IsLeast (best ∷ x ∷ xs) r
+      by true e (r, f, l) other = (r, f, record { member = inr l.member; least = all })
+        where
+          all : (y : X) → Has (best ∷ x ∷ xs) y → is_before (key y) (key r) ≡ false
+          all y (inl s) = rw (← s) (order.chain best x r (order.one_way x best e) (l.least x (inl refl)))
+          all y (inr m) = l.least y m
+      by false e other (r, f, l) = (r, f, record { member = member l.member; least = all })
+        where
+          member : Has (best ∷ xs) r → Has (best ∷ x ∷ xs) r
+          member (inl s) = inl s
+          member (inr m) = inr (inr m)
+
+          all : (y : X) → Has (best ∷ x ∷ xs) y → is_before (key y) (key r) ≡ false
+          all y (inl s) = l.least y (inl s)
+          all y (inr (inl s)) = rw (← s) (order.chain x best r e (l.least best (inl refl)))
+          all y (inr (inr m)) = l.least y (inr m)
+
+  pub least_of-cons : (x : X) (xs : List X) → (r : X) × (least_of key (x ∷ xs) ≡ Some r) × IsLeast (x ∷ xs) r
+  least_of-cons x xs = least_from x xs
+
+  pub least_of-some : (xs : List X) (r : X) → least_of key xs ≡ Some r → IsLeast xs r
+  least_of-some [] r e = absurd (cc)
+  least_of-some (x ∷ xs) r e =
+      let (s, f, l) = least_from x xs in
+      let same : s ≡ r = cc in
+      rw same at l
+
+  pub least_of-has : (xs : List X) (x : X) → Has xs x → (r : X) × (least_of key xs ≡ Some r) × IsLeast xs r
+  least_of-has [] x h = absurd h
+  least_of-has (y ∷ ys) x h = least_from y ys
+
+  -- where a member passes a test, so do all whose keys do not come after its key
+  abbrev pub IsDownward : (X → Bool) → Type 0
+  IsDownward p = (x y : X) → is_before (key y) (key x) ≡ false → p y ≡ true → p x ≡ true
+
+  module _ (p : X → Bool) (downward : IsDownward p) where
+    not_passed : (x y : X) → is_before (key y) (key x) ≡ false → p x ≡ false → p y ≡ false
+    not_passed x y e f = by (p y) refl
+      where
+        by : (b : Bool) → p y ≡ b → p y ≡ false
+        by true g = let passes = downward x y e g in absurd (cc)
+        by false g = g
+
+    -- the next member where it passes, and where it does not
+    takes_next : (best : Option X) (x : X) → p x ≡ true → lesser_of key (option_filter p best) x ≡ lesser_of key best x × (p (lesser_of key best x) ≡ true)
+    takes_next None x e = (refl, e)
+    takes_next (Some best) x e = by (p best) (is_before (key x) (key best)) refl refl
+      where
+        by : (b c : Bool) → p best ≡ b → is_before (key x) (key best) ≡ c → lesser_of key (cond b (Some best) None) x ≡ cond c x best
+            × (p (cond c x best) ≡ true)
+        by true true f g = (ap (λ (d : Bool). cond d x best) g, e)
+        by true false f g = (ap (λ (d : Bool). cond d x best) g, f)
+        by false true f g = (refl, e)
+        by false false f g = let passes = downward best x g e in absurd (cc)
+
+    leaves_next : (best : Option X) (x : X) → p x ≡ false → option_filter p (Some (lesser_of key best x)) ≡ option_filter p best
+    leaves_next None x e = ap (λ (b : Bool). cond b (Some x) None) e
+    leaves_next (Some best) x e = by (is_before (key x) (key best)) refl
+      where
+        by : (c : Bool) → is_before (key x) (key best) ≡ c → option_filter p (Some (cond c x best)) ≡ option_filter p (Some best)
+        by true f = ap (λ (b : Bool). cond b (Some x) None) e ∙ sym (ap (λ (b : Bool). cond b (Some best) None) (not_passed x best (order.one_way x best f) e))
+        by false f = refl
+
+    abbrev step : Option X → X → Option X
+    step best x = Some (lesser_of key best x)
+
+    filter_from : (best : Option X) (xs : List X) → fold step (option_filter p best) (filter p xs) ≡ option_filter p (fold step best xs)
+    filter_from best [] = refl
+    filter_from best (x ∷ xs) = by (p x) refl (λ o. filter_from o xs)
+      where
+        by : (b : Bool) → p x ≡ b → ((o : Option X) → fold step (option_filter p o) (filter p xs) ≡ option_filter p (fold step o xs))
+            → fold step (option_filter p best) (cond b (x ∷ filter p xs) (filter p xs)) ≡ option_filter p (fold step (step best x) xs)
+        by true e rest =
+            let (same, passes) = takes_next best x e in
+            ap (λ (y : X). fold step (Some y) (filter p xs)) same ∙ ap (λ (b : Bool). fold step (cond b (step best x) None) (filter p xs)) (sym passes) ∙
+            rest (step best x)
+        by false e rest = ap (λ (o : Option X). fold step o (filter p xs)) (sym (leaves_next best x e)) ∙ rest (step best x)
+
+    pub least_of-filter : (xs : List X) → least_of key (filter p xs) ≡ option_filter p (least_of key xs)
+    least_of-filter xs = filter_from None xs
+
+-- The phase in which fighters aim keeps a state valid.
+
+-- whom a row sees is another row that has health
+seen_is_target : (setup : Setup) (state : State) (row : Row) (arms : Arms) (id : ℕ) → Has (seen setup state row arms) id → IsTarget state.rows row id
+seen_is_target setup state row arms id h =
+    let (near, other) = Has-of_filter (λ (n : ℕ). not (n == row.id)) (within state row.at arms.vision (enemies_of setup row.owner)) id h in
+    let test : Row → Bool = λ (q : Row). is_some q.health && in_mask (enemies_of setup row.owner) q.owner && is_near q.at row.at arms.vision in
+    let (q, m, e) = Has-of_map id_of (filter test state.rows) id near in
+    let (k, passes) = Has-of_filter test state.rows q m in
+    let (first, rest) = and_parts (is_some q.health && in_mask (enemies_of setup row.owner) q.owner) (is_near q.at row.at arms.vision) passes in
+    let (some, enemy) = and_parts (is_some q.health) (in_mask (enemies_of setup row.owner) q.owner) first in
+    inr (eqb-false id row.id (not-true (id == row.id) other), subst (λ (n : ℕ). has_health state.rows n ≡ true) e (has_health_of state.rows q k some))
+
+pub target_for_is_target : (setup : Setup) (state : State) (row : Row) (arms : Arms) → IsTarget state.rows row (target_for setup state row arms)
+target_for_is_target setup state row arms = by (least_of key (choices setup state row arms)) refl
+  where
+    key : ℕ → List ℕ
+    key id = square_to state row id ∷ id ∷ []
+
+    by : (o : Option ℕ) → least_of (λ id. square_to state row id ∷ id ∷ []) (choices setup state row arms) ≡ o → IsTarget state.rows row (unwrap_or o 0)
+    by None e = inl refl
+    by (Some id) e =
+        let chosen = (least_of-some (λ id. square_to state row id ∷ id ∷ []) (choices setup state row arms) id e).member in
+        seen_is_target setup state row arms id ((Has-of_filter (may_take state row arms) (seen setup state row arms) id chosen).0)
+
+module _ (least : ℕ) (setup : Setup) (state : State) (valid : IsState least setup state) where
+  pub with_releases_is_state : IsState least setup (with_releases setup state)
+  with_releases_is_state =
+      mapped_is_state least least setup state (λ (row : Row). cond (lets_go setup row (row_of state (target_of row))) (released row) row) valid
+      (λ row t h e v. cond_both (lets_go setup row (row_of state (target_of row))) (released row) row (λ (new : Row). Stays least setup state.rows row new t)
+      (λ yes. released_stays least setup state.rows row t v) (λ no. same_stays least setup state.rows row t v))
+
+  pub with_targets_is_state : IsState least setup (with_targets setup state)
+  with_targets_is_state = mapped_is_state least least setup state (λ (row : Row). looking setup state row (is_idle row) (arms_of setup row)) valid
+      (λ row t h e v. by row t v (is_idle row) (arms_of setup row))
+    where
+      by : (row : Row) (t : Template) → IsValidRow least setup state.rows row t → (idle : Bool) (arms : Option Arms)
+          → Stays least setup state.rows row (looking setup state row idle arms) t
+      by row t v true (Some arms) = aimed_at_stays least setup state.rows row t v (target_for setup state row arms) (target_for_is_target setup state row arms)
+      by row t v true None = same_stays least setup state.rows row t v
+      by row t v false arms = same_stays least setup state.rows row t v
+
+pub aimed_is_state : (least : ℕ) (setup : Setup) (state : State) → IsState least setup state → IsState least setup (aimed setup state)
+aimed_is_state least setup state valid = with_targets_is_state least setup (with_releases setup state) (with_releases_is_state least setup state valid)

@@ -1,8 +1,8 @@
 -- The root, which is the greatest number that passes a test, is the one number whose square is within and the next one's is not.
-use Rattle.{sim_base.proofs.RootLemmas.root_is, sim_base.specs.Numbers.greatest, std.proofs.Math.Nat.eq-or-lt_of_le, std.proofs.lemmas.Bool.leb-true}
-use Rattle.sim_laws.{proofs.Common.true≢false, proofs.Common.⊎_elim, proofs.Common.◌∙◌, specs.NumberLaws.RootIsGreatest, specs.NumberLaws.RootIsUnique}
-use Rattle.sim_laws.proofs.Common.{◌≡◌, ℕ, zero, suc, ◌+◌, ◌*◌, ◌<◌, ◌≤◌, Bool, true, false, cond, leb, refl, arith, cases_lt, le-leb, root, sym}
-use Rattle.sim_base.proofs.RootLemmas.{self_le_square}
+use Rattle.sim_base.{proofs.RootLemmas.root_is, proofs.RootLemmas.self_le_square, specs.Places.greatest}
+use Rattle.sim_laws.proofs.Common.{arith, Bool, cases_lt, cond, false, le-leb, leb, refl, root, suc, sym, true, true≢false, zero, ℕ, ⊎_elim, ◌*◌, ◌+◌, ◌<◌, ◌∙◌}
+use Rattle.sim_laws.{proofs.Common.◌≡◌, proofs.Common.◌≤◌, specs.NumberLaws.RootIsGreatest, specs.NumberLaws.RootIsUnique}
+use Rattle.std.proofs.{Math.Nat.eq-or-lt_of_le, lemmas.Bool.leb-true}
 
 -- where 0 passes, the greatest passes
 greatest_passes : (test : ℕ → Bool) (bound : ℕ) → test 0 ≡ true → test (greatest test bound) ≡ true

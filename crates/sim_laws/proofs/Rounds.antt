@@ -1,12 +1,18 @@
 -- The costs that the rounds find are the least costs of walks.
-use Rattle.std.{proofs.Common.add-zero, proofs.Common.ltb-false, specs.Cmp.Lexicographic.pointwise_decides}
-use Rattle.sim_base.specs.{Costs.costs_after, Costs.costs_of, Costs.first_costs, Costs.least_by, Costs.next_costs, Costs.unless_same, Tables.same_table}
-use Rattle.sim_laws.proofs.{Ground.entry-table_of, Ground.same_cell-self, Ground.same_cell-true, Members.Has, Members.Has-filter_map, Members.Has-of_filter_map}
-use Rattle.sim_laws.proofs.{LeastMember.least_of-has, LeastMember.least_of-some, Sources.Has-source, Sources.IsSource-from_has}
-use Rattle.sim_laws.proofs.{Neighbours.neighbour-on, Trips.begin, Trips.cut, Trips.cut-short, Trips.more, Trips.Trip, Trips.trip-on, Trips.walk-on}
-use Rattle.sim_laws.proofs.Common.{IsOnGround, IsStep, option_eq, same_cell, Source, stay, steps_of, sym, Table, true≢false, Walk, ◌∙◌}
-use Rattle.sim_laws.proofs.Common.{Option, option_map, refl, ap, arith, Cell, cost_by, Costs, entry, eq-eqb, eqb-true, Field, go, inl, inr, is_before, IsCost}
-use Rattle.sim_laws.proofs.Common.{◌≡◌, ℕ, zero, suc, ◌+◌, ◌*◌, ◌≤◌, Bool, true, false, cond, ltb, List, [], ◌∷◌, length, nat_eq, Some, None, filter_map}
+use Rattle.sim_base.specs.Ways.{costs_after, costs_of, end_of, first_costs, LeadsTo, least_by, next_costs, points_to, predecessor, reached_of, steps_by}
+use Rattle.sim_base.specs.{Places.same_table, Ways.trail_by, Ways.unless_same, Ways.way_over}
+use Rattle.sim_laws.proofs.Common.{IsFound, IsOnGround, IsPredecessor, IsStep, IsTrail, length, List, ltb, map, MatchBool, nat_eq, neighbour, None, Option}
+use Rattle.sim_laws.proofs.Common.{[], ap, ap₂, arith, beside_open, Bool, Cell, cell_of, cells_of, cond, cond-true, cond_both, cost_by, Costs, end_key, entry}
+use Rattle.sim_laws.proofs.Common.{eq-eqb, eqb-true, false, Field, filter_map, find, first_points, go, inl, inr, is_before, is_free, is_straight, IsCost, IsEnd}
+use Rattle.sim_laws.proofs.Common.{option_eq, option_map, Point, range_with_len, Reached, refl, same_cell, Size, Some, Source, stay, step_cost, step_from}
+use Rattle.sim_laws.proofs.Common.{steps_of, subst, suc, sym, Table, table_of, trail_of, true, true≢false, Walk, way_between, way_of, zero, ℕ, ⊎_elim, ◌*◌, ◌+◌}
+use Rattle.sim_laws.proofs.Neighbours.{Has-of_filter_map, Has-source, IsListed-from_step, IsSource-from_has, IsStep-from, neighbour-below_eight, neighbour-on}
+use Rattle.sim_laws.proofs.Neighbours.{entry-table_of, find-filter_map, Finds, free, free-is, free_of, Has, Has-cells_of, Has-filter_map, Has-of_cells_of}
+use Rattle.sim_laws.proofs.Neighbours.{same_cell-self, same_cell-true, step_from-is, step_from-some, steps-is, straight-in_line}
+use Rattle.sim_laws.proofs.{Common.◌-◌, Common.◌<◌, Common.◌∙◌, Common.◌∷◌, Common.◌≡◌, Common.◌≤◌, Common.◌⊎◌, Trips.Trip, Trips.begin, Trips.cut, Trips.more}
+use Rattle.sim_laws.proofs.{Common.◌||◌, OneWay.way_unique, Removing.least_of-has, Removing.least_of-some, Trips.cut-short, Trips.trip-on, Trips.walk-on}
+use Rattle.sim_laws.specs.WayLaws.{WayIsWayOf, WayOfByGround, WayOfIsWay}
+use Rattle.std.{proofs.Common.add-zero, proofs.Common.ltb-false, proofs.lemmas.Bool.cond-false, specs.Cmp.Lexicographic.pointwise_decides}
 
 not_before : (a b : ℕ) → is_before (a ∷ []) (b ∷ []) ≡ false → b ≤ a
 not_before a b h = by (ltb a b) refl
@@ -177,3 +183,234 @@ module _ (field : Field) (start : Cell) (start_on : IsOnGround field.size start)
       let other = IsCost-from_costs c k (walk-on field start start_on h.walk) f in
       let same : k ≡ d = omega (arith, le, h.least k other.walk) in
       f ∙ ap Some same
+
+-- A way depends on the cells of the ground alone.
+
+same_map : {X : Type 0} (f g : ℕ → X) (a n : ℕ) → ((j : ℕ) → j < a + n → f j ≡ g j) → map f (range_with_len a n) ≡ map g (range_with_len a n)
+same_map f g a zero h = refl
+same_map {X} f g a (suc n) h = ap₂ {C = List X} (λ x xs. x ∷ xs) (h a (omega arith)) (same_map f g (a + 1) n (λ j lt. h j (omega arith)))
+
+same_table_of : {X : Type 0} (size : Size) (f g : Cell → X) → ((c : Cell) → IsOnGround size c → f c ≡ g c) → table_of size f ≡ table_of size g
+same_table_of {X = X} size f g h =
+    same_map (row f) (row g) 0 size.depth
+    (λ z north. same_map (at f z) (at g z) 0 size.width (λ x east. h (record { x = x; z = z }) (record { east = omega arith; north = omega arith })))
+  where
+    at : (Cell → X) → ℕ → ℕ → X
+    at k z x = k (record { x = x; z = z })
+
+    row : (Cell → X) → ℕ → List X
+    row k z = map (at k z) (range_with_len 0 size.width)
+
+pub way_of-same : WayOfByGround
+unfolding way_of
+way_of-same size is_open is_clear h from goal = by (same_cell (cell_of from) (cell_of goal))
+  where
+    open_field : Field
+    open_field = record { size = size; is_open = is_open }
+
+    clear_field : Field
+    clear_field = record { size = size; is_open = is_clear }
+
+    start : Cell
+    start = cell_of from
+
+    free : table_of size (is_free open_field start) ≡ table_of size (is_free clear_field start)
+    free = same_table_of size (is_free open_field start) (is_free clear_field start) (λ c on. ap (λ (b : Bool). same_cell c start || b) (h c on))
+
+    by : (b : Bool) → way_between open_field from goal b ≡ way_between clear_field from goal b
+    by true = refl
+    by false = ap (λ (t : Table Bool). way_over size start goal (steps_by size t)) free
+
+-- The end that the function finds is the definition's end, and the cells that it goes back by are a trail.
+
+pub least_step : (which : ℕ) → 10 ≤ step_cost which
+least_step which = cond_both (is_straight which) 10 14 (λ (n : ℕ). 10 ≤ n) (λ e. omega arith) (λ e. omega arith)
+
+module _ (field : Field) (start : Cell) where
+  step-costs : (a b : Cell) (k : ℕ) → IsStep field start a b k → 10 ≤ k
+  step-costs a b k s = omega (arith, s.cost_is, least_step s.which)
+
+  at_start : (c : Cell) → Walk (IsStep field start) start c 0 → c ≡ start
+  at_start c w = by 0 w (omega arith)
+    where
+      by : {e : Cell} (n : ℕ) → Walk (IsStep field start) start e n → n ≤ 0 → e ≡ start
+      by n stay h = refl
+      by n (go {a = a} {b = b} {k = k} w s) h = absurd (omega (arith, step-costs a b k s))
+
+  module _ (start_on : IsOnGround field.size start) where
+    abbrev found : Costs
+    found = costs field start
+
+    abbrev listed : Cell → List Source
+    listed = entry [] (steps field start)
+
+    abbrev made : Cell → Option Reached
+    made c = option_map (λ d. record { cell = c; cost = d }) (entry None found c)
+
+    reached-has : (c : Cell) (d : ℕ) → IsCost field start c d → Has (reached_of field.size found) (record { cell = c; cost = d })
+    reached-has c d h =
+        let on = walk-on field start start_on h.walk in
+        let reach : ℕ → Reached = λ n. record { cell = c; cost = n } in
+        Has-filter_map made (cells_of field.size) c (reach d) (Has-cells_of field.size c on)
+        (ap (option_map reach) (costs-from_IsCost field start start_on c d h))
+
+    reached-is : (r : Reached) → Has (reached_of field.size found) r → IsCost field start r.cell r.cost
+    reached-is r h =
+        let (c, m, e) = Has-of_filter_map made (cells_of field.size) r h in
+        let on = Has-of_cells_of field.size c m in
+        let (d, f, is) = option_map-some (λ (n : ℕ). record { cell = c; cost = n }) (entry None found c) r e in
+        subst (λ (v : Reached). IsCost field start v.cell v.cost) is (IsCost-from_costs field start start_on c d on f)
+
+    -- the function finds an end
+    pub record IsEndFound (goal : Cell) : Type 0 where
+      pub last : Reached
+      pub is : end_of field.size goal found ≡ Some last
+      pub is_end : IsEnd field start goal last.cell last.cost
+
+    pub end_is_found : (goal : Cell) → IsEndFound goal
+    end_is_found goal =
+        let key : Reached → List ℕ = λ r. end_key goal r.cell r.cost in
+        let own : IsCost field start start 0 = record { walk = stay; least = λ n w. omega arith } in
+        let (r, e, least) = least_of-has key (reached_of field.size found) (record { cell = start; cost = 0 }) (reached-has start 0 own) in
+        record {
+          last = r;
+          is = e;
+          is_end = record { reached = reached-is r least.member; least = λ c n h. least.least (record { cell = c; cost = n }) (reached-has c n h) };
+        }
+
+    abbrev makes_up : ℕ → Source → Bool
+    makes_up d s = option_eq nat_eq (cost_by found s) (Some d)
+
+    leads_from : (c : Cell) (d : ℕ) (s : Source) → IsStep field start s.cell c s.cost → IsOnGround field.size s.cell → makes_up d s ≡ true
+        → LeadsTo field start s.cell c d
+    leads_from c d s step on h =
+        let (n, e, sum) = cost_by-some found s d ((same_option (cost_by found s) (Some d)).0 h) in
+        record { before = n; last = s.cost; reached = IsCost-from_costs field start start_on s.cell n on e; step = step; sum = sum }
+
+    makes_up_from : (p c : Cell) (d j : ℕ) → LeadsTo field start p c d → neighbour field.size c j ≡ Some p → (s : Source)
+        × (step_from field.size (free field start) c j ≡ Some s) × (makes_up d s ≡ true)
+    makes_up_from p c d j h e =
+        let on = walk-on field start start_on h.reached.walk in
+        let step = IsListed-from_step field start p c h.last on h.step in
+        let straight : is_straight j ≡ is_straight step.which = straight-in_line field.size c p j e ∙
+        sym (straight-in_line field.size c p step.which step.leads) in
+        let passes = ap (λ (b : Bool). b || beside_open (free field start) p c) straight ∙ step.passes in
+        let s : Source = record { cell = p; cost = step_cost j } in
+        let same : step_cost j ≡ h.last = ap (λ (b : Bool). cond b 10 14) straight ∙ sym step.cost_is in
+        let total : h.before + step_cost j ≡ d = omega (arith, same, h.sum) in
+        let known = cost_by-is found s h.before (costs-from_IsCost field start start_on p h.before h.reached) in
+        (s, step_from-is field.size (free field start) c p j e passes, (same_option (cost_by found s) (Some d)).1 (known ∙ ap Some total))
+
+    -- what the search for a predecessor of c, which costs d, finds
+    abbrev Answers : Cell → ℕ → Option Source → Type 0
+    Answers c d None = c ≡ start
+    Answers c d (Some s) = IsPredecessor field start s.cell c d × IsOnGround field.size s.cell × (entry None found s.cell ≡ Some (d - s.cost)) × (1 ≤ s.cost)
+        × (s.cost ≤ d)
+
+    -- c is the start, or a step leads to it
+    last_step : (c : Cell) (d : ℕ) → IsCost field start c d → (c ≡ start) ⊎ ((p : Cell) × LeadsTo field start p c d)
+    last_step c d h = by h.walk h.least
+      where
+        by : {e : Cell} {n : ℕ} → Walk (IsStep field start) start e n → ((m : ℕ) → Walk (IsStep field start) start e m → n ≤ m) → (e ≡ start)
+            ⊎ ((p : Cell) × LeadsTo field start p e n)
+        by stay least = inl refl
+        by (go {a = a} {b = b} {n = n} {k = k} w s) least =
+            let is_least : (m : ℕ) → Walk (IsStep field start) start a m → n ≤ m = λ m v. omega (arith, least (m + k) (go v s)) in
+            inr (a, record { before = n; last = k; reached = record { walk = w; least = is_least }; step = s; sum = refl })
+
+    predecessor_is : (c : Cell) (d : ℕ) → IsOnGround field.size c → IsCost field start c d → Answers c d (predecessor found d (listed c))
+    predecessor_is c d on h = by_free (free field start c) refl
+      where
+        from : ℕ → Option Source
+        from = step_from field.size (free field start) c
+
+        by_last : (o : Option Source) → Finds from (makes_up d) 0 8 o → is_free field start c ≡ true → (c ≡ start) ⊎ ((p : Cell) × LeadsTo field start p c d)
+            → Answers c d o
+        by_last None none is_open (inl e) = e
+        by_last None none is_open (inr (p, leads)) =
+            let there = walk-on field start start_on leads.reached.walk in
+            let step = IsListed-from_step field start p c leads.last there leads.step in
+            let (s, gives, fits) = makes_up_from p c d step.which leads step.leads in
+            let eight = neighbour-below_eight field.size c p step.which step.leads in
+            absurd (true≢false (sym fits ∙ none step.which s (omega arith) (omega arith) gives))
+        by_last (Some s) first is_open last =
+            let found_step = step_from-some field.size (free field start) c first.place s first.gives in
+            let there = neighbour-on field.size c s.cell first.place found_step.leads in
+            let step = IsStep-from field start c first.place s on is_open found_step in
+            let (n, e, sum) = cost_by-some found s d ((same_option (cost_by found s) (Some d)).0 first.passes) in
+            let rest : n ≡ d - s.cost = omega arith in (
+              record {
+                which = first.place;
+                neighbour_is = found_step.leads;
+                leads = leads_from c d s step there first.passes;
+                first = λ j q lt e leads. let (t, gives, fits) = makes_up_from q c d j leads e in
+                    true≢false (sym fits ∙ first.none_before j t (omega arith) lt gives);
+              },
+              there,
+              e ∙ ap Some rest,
+              omega (arith, step-costs s.cell c s.cost step),
+              omega arith,
+            )
+
+        by_free : (b : Bool) → free field start c ≡ b → Answers c d (predecessor found d (listed c))
+        by_free true e =
+            let all : listed c ≡ filter_map from (range_with_len 0 8) = steps-is field start c on ∙
+            cond-true (free field start c) (filter_map from (range_with_len 0 8)) [] e in
+            rw all (by_last (find (makes_up d) (filter_map from (range_with_len 0 8))) (find-filter_map from (makes_up d) 0 8) (sym (free-is field start c on) ∙
+            e) (last_step c d h))
+        by_free false e =
+            let all : listed c ≡ [] = steps-is field start c on ∙ cond-false (free field start c) (filter_map from (range_with_len 0 8)) [] e in
+            rw all
+            (⊎_elim
+            (λ (s : c ≡ start). s)
+            (λ (l : (p : Cell) × LeadsTo field start p c d). absurd (true≢false (sym (free_of field start l.0 c l.1.last on l.1.step) ∙ e)))
+            (last_step c d h))
+
+    pub trail_is : (n : ℕ) (c : Cell) (d : ℕ) → IsOnGround field.size c → entry None found c ≡ Some d → d ≤ n
+        → IsTrail field start c (trail_of (steps field start) found n c d)
+    trail_is zero c d on e h =
+        let cost = IsCost-from_costs field start start_on c d on e in
+        let none : d ≡ 0 = omega arith in
+        at_start c (rw none at cost.walk)
+    trail_is (suc n) c d on e h =
+        by (predecessor found d (listed c)) (predecessor_is c d on cost) (trail_is n)
+      where
+        cost : IsCost field start c d
+        cost = IsCost-from_costs field start start_on c d on e
+
+        by : (o : Option Source) → Answers c d o → ((p : Cell) (m : ℕ) → IsOnGround field.size p → entry None found p ≡ Some m → m ≤ n
+            → IsTrail field start p (trail_of (steps field start) found n p m)) → IsTrail field start c (trail_by (trail_of (steps field start) found n) c d o)
+        by None is rest = is
+        by (Some s) (is, there, known, one, le) rest =
+            let own : c ≡ start → Walk (IsStep field start) start c 0 = λ f. rw f stay in
+            (refl, λ f. omega (arith, cost.least 0 (own f)), d, cost, s.cell, is, rest s.cell (d - s.cost) there known (omega arith))
+
+-- The function answers a way.
+
+found_way : (field : Field) (from goal : Point) → IsOnGround field.size (cell_of from) → IsFound field from goal (way_between field from goal false)
+found_way field from goal on =
+    let start = cell_of from in
+    let found = costs field start in
+    let end = end_is_found field start on (cell_of goal) in
+    let reached = end.is_end.reached in
+    record {
+      last = end.last.cell;
+      cost = end.last.cost;
+      trail = trail_of (steps field start) found end.last.cost end.last.cell end.last.cost;
+      is_end = end.is_end;
+      is_trail = trail_is field start on end.last.cost end.last.cell end.last.cost (walk-on field start on reached.walk)
+          (costs-from_IsCost field start on end.last.cell end.last.cost reached) (omega arith);
+      way_is = ap (λ (o : Option Reached). first_points (points_to (steps field start) found goal o)) end.is;
+    }
+
+pub way_of-is_way : WayOfIsWay
+unfolding way_of
+way_of-is_way field from goal on = by (same_cell (cell_of from) (cell_of goal))
+  where
+    by : (b : Bool) → MatchBool b (way_between field from goal b ≡ record { points = goal ∷ []; whole = true })
+        (IsFound field from goal (way_between field from goal b))
+    by true = refl
+    by false = found_way field from goal on
+
+pub way-is_way_of : WayIsWayOf
+way-is_way_of field from goal way on h = way_unique field from goal way (way_of field from goal) h (way_of-is_way field from goal on)

@@ -1,20 +1,20 @@
 -- A turn, a bend and a whole past keep a state valid.
+use Rattle.sim_base.specs.declared.{command.Command.TheVariants.Walk, command.PlayerCommand.PlayerCommand, setup.Timed.Timed}
+use Rattle.sim_base.specs.{Commands.with_row, Limits.IsTimed, Turn.Bend, Turn.Turn, Turn.from, Turn.is_health_of, Turn.may_bend, Turn.orders_at, Turn.own_turns}
+use Rattle.sim_laws.proofs.Common.{Bool, Both, cases_Bool, Cell, centre_of, Command, commanded, commanded_by, cond, cond_both, created, Delete, eqb-true, false}
+use Rattle.sim_laws.proofs.Common.{IsValid, IsValidRow, List, map, map-append, Motion, moved, new_row, None, not, Option, option_and_then, Place, placed_on}
+use Rattle.sim_laws.proofs.Common.{Point, pos, refl, removed, Resign, Row, row_of, sent, set_on, Setup, size_of, slice_get, Some, spot, State, Stop, stopped}
+use Rattle.sim_laws.proofs.Common.{[], Aim, aimed, All, All-cons, All-head, All-map, All-nil, All-tail, All-weaker, and_parts, ap, append-nil, arith, Attack}
+use Rattle.sim_laws.proofs.Common.{filter, First, first_state, fold, has_room, hit, id_of, int_le, ints, is_enemy, is_inside, is_ordered, is_placeable, IsSetup}
+use Rattle.sim_laws.proofs.Common.{subst, suc, sym, Template, template_of, Train, trained, trains, true, with_new, with_ordered, zero, ℕ, ℤ, ⊎_elim, ◌&&◌, ◌++◌}
+use Rattle.sim_laws.proofs.Validity.{apart, first_state_is_valid, found_row, map-map, map_agree, mapped_is_state, same_row, valid_is_loose}
+use Rattle.sim_laws.proofs.{Commanding.commanded_by_is_state, Commanding.moved_is_state, Common.◌+◌, Common.◌==◌, Common.◌∙◌, Common.◌∷◌, Common.◌≡◌}
+use Rattle.sim_laws.proofs.{Common.◌≤ℤ◌, Common.◌≤◌, Hitting.hit_is_state, Neighbours.Has, Removing.aimed_is_state, Removing.gone_is_valid}
+use Rattle.sim_laws.proofs.{Removing.removed-ids, Removing.removed_all, Removing.removed_all-turn, Removing.same_stays, Removing.spent_ids, Validity.Stays}
+use Rattle.sim_laws.specs.TurnLaws.{AfterCountsTurns, AfterIsValid, BendKeepsTurn, BendKeepsValid, CommandKeepsLoose, CommandKeepsOrder, CommandKeepsTurn}
+use Rattle.sim_laws.specs.TurnLaws.{CommandKeepsValid, FromCountsTurns, FromKeepsValid, IsItemOf, IsOrderOf, KeepsOrder, OwnTurnsAreOfPlayers}
+use Rattle.sim_laws.specs.{PhaseLaws.GoneKeepsTurn, TurnLaws.OwnTurnsAreSoMany, TurnLaws.TurnIsCounted, TurnLaws.TurnKeepsValid}
 use Rattle.std.proofs.lemmas.List.Elements.{All-filter}
-use Rattle.sim_base.specs.{Changes.with_row, Turn.Bend, Turn.from, Turn.is_health_of, Turn.may_bend, Turn.orders_at, Turn.own_turns, Turn.Turn}
-use Rattle.sim_base.specs.{Limits.IsTimed, declared.command.Command.TheVariants.Walk, declared.command.PlayerCommand.PlayerCommand, declared.setup.Timed.Timed}
-use Rattle.sim_laws.proofs.{Aiming.aimed_is_state, Hitting.hit_is_state, Members.Has, Moving.moved_is_state, RowWise.mapped_is_state, RowWise.Stays}
-use Rattle.sim_laws.proofs.{Commanding.commanded_by_is_state, Common.trained, Common.trains, Common.with_new, Common.with_ordered, Common.⊎_elim, Common.◌∙◌}
-use Rattle.sim_laws.proofs.{Rows.apart, Rows.found_row, Rows.map-map, Rows.map_agree, Rows.same_row, Validity.first_state_is_valid, Validity.valid_is_loose}
-use Rattle.sim_laws.proofs.Common.{All-tail, All-weaker, and_parts, ap, append-nil, arith, Attack, Both, cases_Bool, Cell, centre_of, Command, commanded}
-use Rattle.sim_laws.proofs.Common.{Resign, Row, row_of, sent, set_on, Setup, size_of, spot, State, Stop, stopped, subst, sym, Template, template_of, Train}
-use Rattle.sim_laws.proofs.Common.{commanded_by, cond_both, created, Delete, eqb-true, First, first_state, has_room, hit, id_of, ints, is_enemy, is_inside}
-use Rattle.sim_laws.proofs.Common.{int_le, Some, None, fold, All, filter, Option, option_and_then, refl, Aim, aimed, All-cons, All-head, All-map, All-nil}
-use Rattle.sim_laws.proofs.Common.{is_ordered, is_placeable, IsSetup, IsValid, IsValidRow, map-append, Motion, moved, new_row, Place, placed_on, Point, removed}
-use Rattle.sim_laws.proofs.Common.{◌≡◌, ℕ, zero, suc, ◌+◌, ◌≤◌, Bool, true, false, cond, not, ◌&&◌, List, [], ◌∷◌, ◌++◌, map, ℤ, pos, ◌≤ℤ◌, ◌==◌, slice_get}
-use Rattle.sim_laws.proofs.Removing.{gone_is_valid, removed-ids, removed_all, removed_all-turn, same_stays, spent_ids}
-use Rattle.sim_laws.specs.{PhaseLaws.GoneKeepsTurn, TurnLaws.OwnTurnsAreOfPlayers, TurnLaws.OwnTurnsAreSoMany, TurnLaws.TurnIsCounted, TurnLaws.TurnKeepsValid}
-use Rattle.sim_laws.specs.CommandLaws.{CommandKeepsLoose, CommandKeepsOrder, CommandKeepsTurn, CommandKeepsValid, IsOrderOf, KeepsOrder}
-use Rattle.sim_laws.specs.TurnLaws.{AfterCountsTurns, AfterIsValid, BendKeepsTurn, BendKeepsValid, FromCountsTurns, FromKeepsValid, IsItemOf}
 
 -- ---- commands
 

@@ -1,11 +1,152 @@
 -- A valid state is loosely valid, a state stays valid where a row is made, and so the first state of a match is valid.
-use Rattle.{sim_base.specs.Limits.IsFirst, sim_base.specs.Limits.IsRawFrom, std.proofs.Common.IfSome, std.proofs.Common.length-append}
-use Rattle.std.proofs.lemmas.{List.get_or-append_right, List.get_or_append_left, List.Elements.All-push, List.Folds.list_any-append, Option.slice_get-get_or}
-use Rattle.sim_laws.proofs.Common.{Both, cases_lt, created, First, first_state, has_health, id_of, inl, inr, ints, IsInside, IsKnownRow, IsLooselyValid}
-use Rattle.sim_laws.proofs.Common.{IsSetup, IsState, IsStrictlyIncreasing, IsTemplate, IsValid, IsValidAim, IsValidMotion, IsValidRow, map-append, new_row}
-use Rattle.sim_laws.proofs.Common.{MatchOption, Some, None, fold, All, Option, option_map, refl, Aim, All-head, All-map, All-tail, All-weaker, ap, arith, Arms}
-use Rattle.sim_laws.proofs.Common.{or_left, Point, Row, Setup, State, Still, subst, sym, Template, template_of, with_new, ⊎_elim, ◌∙◌}
-use Rattle.sim_laws.proofs.Common.{◌≡◌, ℕ, ◌+◌, ◌-◌, ◌<◌, ◌≤◌, true, false, ◌≢◌, List, [], ◌∷◌, ◌++◌, map, length, get_or, ℤ, pos, ◌≤ℤ◌, IsTrue, slice_get}
+use Rattle.sim_laws.proofs.Common.{IsValidAim, IsValidMotion, IsValidRow, length, length-map, List, map, map-append, MatchOption, new_row, None, Option}
+use Rattle.sim_laws.proofs.Common.{Template, template_of, true, with_new, zero, ℕ, ℤ, ⊎_elim, ◌&&◌, ◌++◌, ◌+◌, ◌-◌, ◌<◌, ◌==◌, ◌∙◌, ◌∷◌, ◌≡◌, ◌≢◌, ◌≤ℤ◌, ◌≤◌}
+use Rattle.sim_laws.proofs.Common.{[], Aim, All, All-cons, All-head, All-map, All-nil, All-tail, All-weaker, and_parts, ap, arith, Arms, Bool, Both, cases_lt}
+use Rattle.sim_laws.proofs.Common.{cond, created, eq-eqb, eqb-true, false, filter, find, First, first_state, fold, get_or, has_health, id_of, inl, inr, ints}
+use Rattle.sim_laws.proofs.Common.{is_some, IsInside, IsKnownRow, IsLooselyValid, IsSetup, IsState, IsStrictlyIncreasing, IsTemplate, IsTrue, IsValid}
+use Rattle.sim_laws.proofs.Common.{option_map, or_cases, or_left, Point, pos, refl, Row, row_of, Setup, slice_get, Some, State, Still, subst, suc, sym}
+use Rattle.std.proofs.lemmas.{Bool.or_right, List.Elements.All-push, List.Folds.list_any-append, List.Kept.AllPairs-from_increasing, List.get_or-append_right}
+use Rattle.std.proofs.{Common.IfSome, Common.length-append, lemmas.List.get_or_append_left, lemmas.Option.slice_get-get_or}
+use Rattle.std.specs.Prelude.{AllPairs}
+use Rattle.{sim_base.specs.Limits.IsFirst, sim_base.specs.Limits.IsRawFrom, sim_laws.proofs.Neighbours.Has, sim_laws.proofs.Neighbours.Has-map}
+
+-- Rows of a state: which are among its rows, that their ids are apart, and what is found by an id.
+
+-- ---- members
+
+module _ {X : Type 0} (P : X → Type 0) where
+  pub all_at : (xs : List X) (x : X) → All P xs → Has xs x → P x
+  all_at [] x all h = absurd h
+  all_at (y ∷ ys) x all (inl e) = subst P e (All-head P y ys all)
+  all_at (y ∷ ys) x all (inr h) = all_at ys x (All-tail P y ys all) h
+
+  pub all_from : (xs : List X) → ((x : X) → Has xs x → P x) → All P xs
+  all_from [] each = All-nil P
+  all_from (x ∷ xs) each = All-cons P x xs (each x (inl refl)) (all_from xs (λ y h. each y (inr h)))
+
+-- two functions that agree on the members
+pub map_agree : {X Y : Type 0} (f g : X → Y) (xs : List X) → ((x : X) → Has xs x → f x ≡ g x) → map f xs ≡ map g xs
+map_agree f g [] each = refl
+map_agree f g (x ∷ xs) each =
+    let head : f x ≡ g x = each x (inl refl) in
+    let tail : map f xs ≡ map g xs = map_agree f g xs (λ y h. each y (inr h)) in
+    cc
+
+pub map-map : {X Y Z : Type 0} (f : X → Y) (g : Y → Z) (xs : List X) → map g (map f xs) ≡ map (λ x. g (f x)) xs
+map-map f g [] = refl
+map-map f g (x ∷ xs) = ap (λ ys. g (f x) ∷ ys) (map-map f g xs)
+
+pub Has-filter : {X : Type 0} (p : X → Bool) (xs : List X) (x : X) → Has xs x → p x ≡ true → Has (filter p xs) x
+Has-filter p [] x h e = absurd h
+Has-filter p (y ∷ ys) x (inl s) e = let t : p y ≡ true = ap p s ∙ e in rw t (inl s)
+Has-filter p (y ∷ ys) x (inr h) e = by (p y) (Has-filter p ys x h e)
+  where
+    by : (b : Bool) → Has (filter p ys) x → Has (cond b (y ∷ filter p ys) (filter p ys)) x
+    by true m = inr m
+    by false m = m
+
+pub Has-of_filter : {X : Type 0} (p : X → Bool) (xs : List X) (x : X) → Has (filter p xs) x → Has xs x × (p x ≡ true)
+Has-of_filter p [] x h = absurd h
+Has-of_filter p (y ∷ ys) x h = by (p y) refl h (Has-of_filter p ys x)
+  where
+    by : (b : Bool) → p y ≡ b → Has (cond b (y ∷ filter p ys) (filter p ys)) x → (Has (filter p ys) x → Has ys x × (p x ≡ true))
+        → Has (y ∷ ys) x × (p x ≡ true)
+    by true e (inl s) rest = (inl s, ap p (sym s) ∙ e)
+    by true e (inr m) rest = let (k, t) = rest m in (inr k, t)
+    by false e m rest = let (k, t) = rest m in (inr k, t)
+
+-- ---- the rows of a valid state
+
+-- a row of a valid state has a template, and is valid as a row of it
+pub known_row : (least : ℕ) (setup : Setup) (rows : List Row) (row : Row) → IsKnownRow least setup rows row
+    → (t : Template) × (template_of setup row ≡ Some t) × IsValidRow least setup rows row t
+known_row least setup rows row h = by (template_of setup row) refl h
+  where
+    by : (o : Option Template) → template_of setup row ≡ o → MatchOption o ⊥ (IsValidRow least setup rows row)
+        → (t : Template) × (template_of setup row ≡ Some t) × IsValidRow least setup rows row t
+    by None e h = absurd h
+    by (Some t) e h = (t, e, h)
+
+pub row_known : (least : ℕ) (setup : Setup) (rows : List Row) (row : Row) (t : Template) → template_of setup row ≡ Some t
+    → IsValidRow least setup rows row t → IsKnownRow least setup rows row
+row_known least setup rows row t e h = subst (λ (o : Option Template). MatchOption o ⊥ (IsValidRow least setup rows row)) (sym e) h
+
+-- a row that has health is of a template that has, and the other way round
+pub both_same : {X Y : Type 0} (P : X → Y → Type 0) (a : Option X) (b : Option Y) → Both a b P → is_some a ≡ is_some b
+both_same P None None h = refl
+both_same P None (Some y) h = absurd h
+both_same P (Some x) None h = absurd h
+both_same P (Some x) (Some y) h = refl
+
+-- ---- ids are apart
+
+-- each row's id is below those of the rows after it
+abbrev pub Apart : List Row → Type 0
+Apart [] = Unit {0}
+Apart (row ∷ rows) = ((q : Row) → Has rows q → row.id < q.id) × Apart rows
+
+apart_by_pairs : (rows : List Row) → AllPairs (λ (a b : ℕ). a < b) (map id_of rows) → Apart rows
+apart_by_pairs [] p = tt
+apart_by_pairs (row ∷ rows) p = (
+  λ q h. all_at (λ (n : ℕ). row.id < n) (map id_of rows) q.id (λ k d within. p zero (suc k) d (omega arith) (omega arith)) (Has-map id_of rows q h),
+  apart_by_pairs rows (λ i j d before within. p (suc i) (suc j) d (omega arith) (omega arith)),
+)
+
+pub apart : (rows : List Row) → IsStrictlyIncreasing (map id_of rows) → Apart rows
+apart rows h = apart_by_pairs rows (AllPairs-from_increasing (map id_of rows) h)
+
+pub same_row : (rows : List Row) (a b : Row) → Apart rows → Has rows a → Has rows b → a.id ≡ b.id → a ≡ b
+same_row [] a b apart h k e = absurd h
+same_row (row ∷ rows) a b apart (inl s) (inl t) e = sym s ∙ t
+same_row (row ∷ rows) a b apart (inl s) (inr t) e = let below = apart.0 b t in let same : row.id ≡ a.id = ap id_of s in absurd (omega (arith, below))
+same_row (row ∷ rows) a b apart (inr s) (inl t) e = let below = apart.0 a s in let same : row.id ≡ b.id = ap id_of t in absurd (omega (arith, below))
+same_row (row ∷ rows) a b apart (inr s) (inr t) e = same_row rows a b apart.1 s t e
+
+-- ---- what is found
+
+pub find_has : {X : Type 0} (p : X → Bool) (xs : List X) (x : X) → find p xs ≡ Some x → Has xs x × (p x ≡ true)
+find_has p [] x e = absurd (cc)
+find_has p (y ∷ ys) x e = by (p y) refl e (find_has p ys x)
+  where
+    by : (b : Bool) → p y ≡ b → cond b (Some y) (find p ys) ≡ Some x → (find p ys ≡ Some x → Has ys x × (p x ≡ true)) → Has (y ∷ ys) x × (p x ≡ true)
+    by true t f rest = let same : y ≡ x = cc in (inl same, ap p (sym same) ∙ t)
+    by false t f rest = let (k, s) = rest f in (inr k, s)
+
+-- the row that is found by an id is a row with this id
+pub found_row : (state : State) (id : ℕ) (row : Row) → row_of state id ≡ Some row → Has state.rows row × (row.id ≡ id)
+found_row state id row e = let (h, t) = find_has (λ (r : Row). r.id == id) state.rows row e in (h, eqb-true row.id id t)
+
+pub find_by_id : (rows : List Row) (row : Row) → Apart rows → Has rows row → find (λ (r : Row). r.id == row.id) rows ≡ Some row
+find_by_id [] row apart h = absurd h
+find_by_id (q ∷ rows) row apart h = by (q.id == row.id) refl h (find_by_id rows row apart.1)
+  where
+    by : (b : Bool) → (q.id == row.id) ≡ b → Has (q ∷ rows) row → (Has rows row → find (λ (r : Row). r.id == row.id) rows ≡ Some row)
+        → cond b (Some q) (find (λ (r : Row). r.id == row.id) rows) ≡ Some row
+    by true e m rest = ap Some (same_row (q ∷ rows) q row apart (inl refl) m (eqb-true q.id row.id e))
+    by false e (inl s) rest = let same : (q.id == row.id) ≡ true = eq-eqb q.id row.id (ap id_of s) in absurd (cc)
+    by false e (inr m) rest = rest m
+
+-- a row is found by its id
+pub row_found : (state : State) (row : Row) → Apart state.rows → Has state.rows row → row_of state row.id ≡ Some row
+row_found state row apart h = find_by_id state.rows row apart h
+
+-- ---- which ids have health
+
+pub has_health_of : (rows : List Row) (row : Row) → Has rows row → is_some row.health ≡ true → has_health rows row.id ≡ true
+has_health_of [] row h e = absurd h
+has_health_of (q ∷ rows) row (inl s) e =
+    or_left _ _ (subst (λ (r : Row). ((r.id == row.id) && is_some r.health) ≡ true) (sym s) (both (eq-eqb row.id row.id refl) e))
+  where
+    both : {a b : Bool} → a ≡ true → b ≡ true → (a && b) ≡ true
+    both {a} {b} p q = rw (p, q) refl
+has_health_of (q ∷ rows) row (inr h) e = or_right _ _ (has_health_of rows row h e)
+
+pub of_has_health : (rows : List Row) (id : ℕ) → has_health rows id ≡ true → (row : Row) × Has rows row × (row.id ≡ id) × (is_some row.health ≡ true)
+of_has_health [] id e = absurd (cc)
+of_has_health (q ∷ rows) id e = ⊎_elim
+    (λ (h : ((q.id == id) && is_some q.health) ≡ true). let (a, b) = and_parts (q.id == id) (is_some q.health) h in (q, inl refl, eqb-true q.id id a, b))
+    (λ (h : has_health rows id ≡ true). let (row, m, s, t) = of_has_health rows id h in (row, inr m, s, t))
+    (or_cases ((q.id == id) && is_some q.health) (has_health rows id) e)
 
 -- what is said of two parts may be weakened
 pub Both-weaker : {X Y : Type 0} (P Q : X → Y → Type 0) → ((x : X) (y : Y) → P x y → Q x y) → (a : Option X) (b : Option Y) → Both a b P → Both a b Q
@@ -198,3 +339,76 @@ first_state_is_valid setup limits =
       next = refl;
       rows = refl;
     })
+
+-- A state stays valid where each row is changed for itself and is still a valid row of its template.
+
+-- a row beside what it was, a row of template t: it is the same entity, and still a valid row of t
+pub record Stays (least : ℕ) (setup : Setup) (rows : List Row) (row new : Row) (t : Template) : Type 0 where
+  pub id : new.id ≡ row.id
+  pub template : new.template ≡ row.template
+  pub valid : IsValidRow least setup rows new t
+
+-- a row is valid beside other rows where the same ids have health
+pub valid_beside : (least : ℕ) (setup : Setup) (rows more : List Row) → ((id : ℕ) → has_health rows id ≡ true → has_health more id ≡ true) →
+    (row : Row) (t : Template) → IsValidRow least setup rows row t → IsValidRow least setup more row t
+valid_beside least setup rows more kept row t h =
+    record {
+      at = h.at;
+      owner = h.owner;
+      health = h.health;
+      motion = h.motion;
+      attack = Both-weaker (IsValidAim rows row.id) (IsValidAim more row.id) aim_kept row.attack t.arms h.attack;
+    }
+  where
+    aim_kept : (aim : Aim) (arms : Arms) → IsValidAim rows row.id aim arms → IsValidAim more row.id aim arms
+    aim_kept aim arms v =
+        record {
+          target = ⊎_elim (λ (none : aim.target ≡ 0). inl none) (λ (other : (aim.target ≢ row.id) × IsTrue (has_health rows aim.target)). inr
+              (other.0, kept aim.target other.1)) v.target;
+          cooldown = v.cooldown;
+        }
+
+module _ (old least : ℕ) (setup : Setup) (state : State) (f : Row → Row) where
+  -- each row of the state is the same entity after f, and valid beside the rows before
+  abbrev pub EachStays : Type 0
+  EachStays = (row : Row) (t : Template) → Has state.rows row → template_of setup row ≡ Some t → IsValidRow old setup state.rows row t
+      → Stays least setup state.rows row (f row) t
+
+  module _ (valid : IsState old setup state) (each : EachStays) where
+    stays : (row : Row) → Has state.rows row
+        → (t : Template) × (template_of setup row ≡ Some t) × IsValidRow old setup state.rows row t × Stays least setup state.rows row (f row) t
+    stays row h =
+        let (t, e, v) = known_row old setup state.rows row (all_at (IsKnownRow old setup state.rows) state.rows row valid.rows h) in
+        (t, e, v, each row t h e v)
+
+    same_ids : map id_of (map f state.rows) ≡ map id_of state.rows
+    same_ids = map-map f id_of state.rows ∙ map_agree (λ (row : Row). (f row).id) id_of state.rows (λ row h. let (t, e, v, s) = stays row h in s.id)
+
+    kept_health : (id : ℕ) → has_health state.rows id ≡ true → has_health (map f state.rows) id ≡ true
+    kept_health id h =
+        let (row, m, e, k) = of_has_health state.rows id h in
+        let (t, known, v, s) = stays row m in
+        let some : is_some (f row).health ≡ true = both_same _ (f row).health t.health s.valid.health ∙ sym (both_same _ row.health t.health v.health) ∙ k in
+        subst (λ (n : ℕ). has_health (map f state.rows) n ≡ true) (s.id ∙ e) (has_health_of (map f state.rows) (f row) (Has-map f state.rows row m) some)
+
+    pub mapped_is_state : IsState least setup (record state { rows = map f state.rows })
+    mapped_is_state =
+        record {
+          turn = valid.turn;
+          next = valid.next;
+          word = valid.word;
+          few = omega (arith, valid.few, length-map state.rows f);
+          ascending = subst IsStrictlyIncreasing (sym same_ids) valid.ascending;
+          ids = All-map (λ (r : Row). (2 ≤ r.id) × (r.id < state.next)) f state.rows
+              (all_from (λ (row : Row). (2 ≤ (f row).id) × ((f row).id < state.next)) state.rows
+              (λ row h. let (t, e, v, s) = stays row h in let b = all_at (λ (r : Row). (2 ≤ r.id) × (r.id < state.next)) state.rows row valid.ids h in
+              (omega (arith, b.0, s.id), omega (arith, b.1, s.id))));
+          rows = All-map (IsKnownRow least setup (map f state.rows)) f state.rows (all_from (λ (row : Row). IsKnownRow least setup (map f state.rows) (f row))
+              state.rows is_known);
+        }
+      where
+        is_known : (row : Row) → Has state.rows row → IsKnownRow least setup (map f state.rows) (f row)
+        is_known row h =
+            let (t, e, v, s) = stays row h in
+            row_known least setup (map f state.rows) (f row) t (ap (λ (n : ℕ). slice_get setup.templates n) s.template ∙ e)
+            (valid_beside least setup state.rows (map f state.rows) kept_health (f row) t s.valid)

@@ -1,6 +1,5 @@
 pub mod WayLaws
 pub mod StateLaws
 pub mod NumberLaws
-pub mod CommandLaws
-pub mod PhaseLaws
 pub mod TurnLaws
+pub mod PhaseLaws

@@ -1,6 +1,5 @@
 -- What the laws of numbers say.
-use Rattle.std.specs.Prelude.{◌≡◌, ℕ}
-use Rattle.sim_base.specs.Numbers.{IsRoot, root}
+use Rattle.{sim_base.specs.Places.IsRoot, sim_base.specs.Places.root, std.specs.Prelude.ℕ, std.specs.Prelude.◌≡◌}
 
 -- the square of the root is within the number, and no greater number's is
 abbrev pub RootIsGreatest : Type 0

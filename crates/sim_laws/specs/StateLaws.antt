@@ -1,5 +1,5 @@
 -- What the laws of states say.
-use Rattle.sim_base.specs.{Limits.IsSetup, Turn.first_state, Validity.IsLooselyValid, Validity.IsValid, declared.setup.Setup.Setup, declared.state.State.State}
+use Rattle.sim_base.specs.{Limits.IsLooselyValid, Limits.IsSetup, Limits.IsValid, Turn.first_state, declared.setup.Setup.Setup, declared.state.State.State}
 
 -- what is valid between two turns is valid inside a turn
 abbrev pub ValidIsLooselyValid : Type 0

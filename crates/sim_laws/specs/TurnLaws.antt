@@ -1,8 +1,47 @@
 -- What the laws of turns and pasts say.
-use Rattle.{sim_base.specs.Limits.IsSetup, sim_laws.specs.CommandLaws.IsOrderOf}
-use Rattle.std.specs.Prelude.{◌≡◌, ℕ, ◌+◌, ◌<◌, ◌≤◌, List, ℤ, All}
-use Rattle.sim_base.specs.{Validity.IsValid, declared.command.PlayerCommand.PlayerCommand, declared.setup.Setup.Setup, declared.state.State.State}
-use Rattle.sim_base.specs.Turn.{after, Bend, bent, from, Item, own_turns, Past, Turn, turn, turns_in}
+use Rattle.sim_base.specs.Turn.{Bend, Item, Past, Turn, after, bent, from, own_turns, turn, turns_in}
+use Rattle.sim_base.specs.declared.{command.PlayerCommand.PlayerCommand, setup.Setup.Setup, state.Row.Row, state.State.State}
+use Rattle.sim_base.specs.{Commands.commanded, Limits.IsFrom, Limits.IsLooselyValid, Limits.IsSetup, Limits.IsValid, Rows.id_of, Rows.row_of, Rows.target_of}
+use Rattle.std.specs.Prelude.{All, Bool, filter, IsSome, List, map, Some, ℕ, ℤ, ◌++◌, ◌+◌, ◌<◌, ◌≡◌, ◌≢◌, ◌≤◌, ◌⊎◌}
+
+-- What the laws of commands say.
+
+-- a command is given by a player of the match
+abbrev pub IsOrderOf : Setup → PlayerCommand → Type 0
+IsOrderOf setup order = IsFrom 1 setup.players order.player
+
+-- a command keeps a state valid
+abbrev pub CommandKeepsValid : Type 0
+CommandKeepsValid = (setup : Setup) (state : State) (order : PlayerCommand) → IsSetup setup → IsOrderOf setup order → IsValid setup state
+    → IsValid setup (commanded setup state order)
+
+-- and one that is loosely valid it keeps so
+abbrev pub CommandKeepsLoose : Type 0
+CommandKeepsLoose =
+    (setup : Setup) (state : State) (order : PlayerCommand) → IsSetup setup → IsOrderOf setup order → IsLooselyValid setup state
+    → IsLooselyValid setup (commanded setup state order)
+
+-- a command is no turn
+abbrev pub CommandKeepsTurn : Type 0
+CommandKeepsTurn = (setup : Setup) (state : State) (order : PlayerCommand) → (commanded setup state order).turn ≡ state.turn
+
+-- the rows are old ones in their old order, and after them new ones
+pub record KeepsOrder (old new : State) : Type 0 where
+  pub stays : ℕ → Bool
+  pub made : List ℕ
+  pub ids : map id_of new.rows ≡ filter stays (map id_of old.rows) ++ made
+  pub made_later : All (λ id. old.next ≤ id) made
+
+-- a command keeps the order of the rows
+abbrev pub CommandKeepsOrder : Type 0
+CommandKeepsOrder = (setup : Setup) (state : State) (order : PlayerCommand) → KeepsOrder state (commanded setup state order)
+
+-- a row of another owner stays as it is, unless its target left
+abbrev pub CommandLeavesOthers : Type 0
+CommandLeavesOthers =
+    (setup : Setup) (state : State) (order : PlayerCommand) (row : Row) → IsSetup setup → IsOrderOf setup order → IsLooselyValid setup state
+    → row_of state row.id ≡ Some row → row.owner ≢ order.player → (target_of row ≡ 0) ⊎ IsSome (row_of (commanded setup state order) (target_of row))
+    → row_of (commanded setup state order) row.id ≡ Some row
 
 -- a turn below the last one, with commands of players of the match, keeps a state valid
 abbrev pub TurnKeepsValid : Type 0

@@ -1,7 +1,7 @@
 -- What the laws of ways say.
-use Rattle.std.specs.Prelude.{◌≡◌, ◌≤◌, Bool, length, IsTrue, All}
-use Rattle.sim_base.specs.{Limits.waypoint_limit, WayOf.way_of, Ways.IsWay, Ways.Way}
-use Rattle.sim_base.specs.{Places.cell_of, Places.is_inside, Places.Size, Steps.Field, Steps.IsOnGround, declared.place.Cell.Cell, declared.place.Point.Point}
+use Rattle.sim_base.specs.{Limits.waypoint_limit, Places.Field, Places.IsOnGround, Places.Size, Places.cell_of, Places.is_inside, Ways.IsWay, Ways.Way}
+use Rattle.sim_base.specs.{Ways.way_of, declared.place.Cell.Cell, declared.place.Point.Point}
+use Rattle.std.specs.Prelude.{All, Bool, IsTrue, length, ◌≡◌, ◌≤◌}
 
 -- two ways of one question are equal
 abbrev pub WayIsUnique : Type 0

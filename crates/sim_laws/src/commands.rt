@@ -1,6 +1,6 @@
 //! Laws of commands.
 
-ghost use Rattle.sim_laws.specs.CommandLaws.{CommandKeepsLoose, CommandKeepsOrder, CommandKeepsTurn, CommandKeepsValid, CommandLeavesOthers};
+ghost use Rattle.sim_laws.specs.TurnLaws.{CommandKeepsLoose, CommandKeepsOrder, CommandKeepsTurn, CommandKeepsValid, CommandLeavesOthers};
 
 /// A command of a player of the match keeps a state valid.
 pub fn a_command_keeps_a_state_valid()

@@ -1,8 +1,8 @@
 //! Digests, states and raw bytes as text.
 
-ghost use Rattle.std.specs.Prelude.{◌≡◌, false, IfOk, IsOk};
-ghost use Rattle.sim_lists.specs.Hexadecimal.{digest_of as digest_of_text, hex_of, raw_of as raw_of_text, state_of as state_of_text};
-ghost use Rattle.sim_lists.specs.Taking.{digest_takes, hex_takes, raw_takes, state_takes};
+ghost use Rattle.std.specs.Prelude.{false, IfOk, IsOk, ◌≡◌};
+ghost use Rattle.sim_lists.specs.Arrivals.{digest_of as digest_of_text, digest_takes, hex_of, hex_takes, raw_of as raw_of_text, raw_takes};
+ghost use Rattle.sim_lists.specs.Arrivals.{state_of as state_of_text, state_takes};
 
 use sim_base::{Items, MAX_STATE, OutOfMemory};
 use sim_bytes::read_hex;

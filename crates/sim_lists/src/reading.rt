@@ -1,10 +1,11 @@
 //! The whole schedule: the object and its numbers first, then each arrival.
 
-ghost use Rattle.{serde_json.specs.View.view, sim_json.specs.Values.list_at as list_at_key, std.specs.Str.is_utf8};
-ghost use Rattle.std.specs.Prelude.{◌≡◌, false, map, IfSome, IfOk, All, option_map, option_and_then};
-ghost use Rattle.sim_lists.specs.{Arrivals.arrival_of as arrival_of_data, Early.early_items, Early.early_schedule, Early.early_schedule_within, Meets.Meets};
-ghost use Rattle.sim_lists.specs.{Schedules.schedule_of as schedule_of_bytes, Schedules.schedule_within as schedule_within_data, Taking.arrival_takes};
-ghost use Rattle.sim_lists.specs.Schedules.{arrivals_from as arrivals_from_data, few as few_of, IsFromClient, IsSchedule, schedule_in as schedule_in_data};
+ghost use Rattle.std.specs.Prelude.{All, false, IfOk, IfSome, map, option_and_then, option_map, ◌≡◌};
+ghost use Rattle.std.specs.Str.{is_utf8};
+ghost use Rattle.sim_lists.specs.StepLists.{IsFromClient, IsSchedule, schedule_in as schedule_in_data, schedule_of as schedule_of_bytes};
+ghost use Rattle.sim_lists.specs.StepLists.{arrivals_from as arrivals_from_data, early_items, early_schedule, early_schedule_within, few as few_of};
+ghost use Rattle.sim_lists.specs.{Arrivals.arrival_of as arrival_of_data, Arrivals.arrival_takes, Meets.Meets};
+ghost use Rattle.{serde_json.specs.View.view, sim_json.specs.Values.list_at as list_at_key, sim_lists.specs.StepLists.schedule_within as schedule_within_data};
 
 use crate::fault::refused;
 use crate::{Arrivals, ListFault, Schedule, arrival_of};

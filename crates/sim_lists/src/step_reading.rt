@@ -1,9 +1,10 @@
 //! The whole list of steps: the object and its number of clients first, then each step.
 
-ghost use Rattle.{serde_json.specs.View.view, sim_lists.specs.Steps.step_of as step_of_data, sim_lists.specs.Taking.step_takes};
-ghost use Rattle.std.specs.{Prelude.◌≡◌, Prelude.false, Prelude.map, Prelude.IfSome, Prelude.IfOk, Prelude.All, Str.is_utf8};
-ghost use Rattle.sim_lists.specs.{Early.early_items, Early.early_steps, Early.early_steps_within, Meets.Meets, StepLists.steps_within as steps_within_data};
-ghost use Rattle.sim_lists.specs.StepLists.{IsStep, IsStepList, steps_from as steps_from_data, steps_in as steps_in_data, steps_of as steps_of_bytes};
+ghost use Rattle.std.specs.{Prelude.All, Prelude.IfOk, Prelude.IfSome, Prelude.false, Prelude.map, Prelude.◌≡◌, Str.is_utf8};
+ghost use Rattle.serde_json.specs.View.{view};
+ghost use Rattle.sim_lists.specs.StepLists.{early_items, early_steps, IsStep, IsStepList, step_of as step_of_data, steps_in as steps_in_data};
+ghost use Rattle.sim_lists.specs.StepLists.{steps_of as steps_of_bytes, steps_within as steps_within_data};
+ghost use Rattle.sim_lists.specs.{Arrivals.step_takes, Meets.Meets, StepLists.early_steps_within, StepLists.steps_from as steps_from_data};
 
 use crate::fault::refused;
 use crate::reading::{NO_LIST, few};

@@ -1,10 +1,9 @@
 //! One step of a session. Each reader is handed what follows its word and its client.
 
+ghost use Rattle.std.specs.Prelude.{false, IfOk, IfSome, IsOk, map, option_and_then, option_map, ◌≡◌};
+ghost use Rattle.sim_lists.specs.StepLists.{alone as alone_in, bend_from as bend_from_data, client_of, IsStep, OrdersFew, plain_step_by as plain_step_by_word};
+ghost use Rattle.sim_lists.specs.{Arrivals.order_takes, Arrivals.step_takes, StepLists.step_by as step_by_word, StepLists.step_of as step_of_data};
 ghost use Rattle.{serde_json.specs.View.view, sim_json.specs.Values.front_two as front_two_of, sim_json.specs.Values.list_of as list_of_data};
-ghost use Rattle.std.specs.Prelude.{◌≡◌, false, map, IfSome, IfOk, IsOk, option_map, option_and_then};
-ghost use Rattle.sim_lists.specs.{StepLists.client_of, StepLists.IsStep, StepLists.OrdersFew, Taking.order_takes, Taking.step_takes};
-ghost use Rattle.sim_lists.specs.Steps.{alone as alone_in, bend_from as bend_from_data, plain_step_by as plain_step_by_word, step_by as step_by_word};
-ghost use Rattle.sim_lists.specs.Steps.{step_of as step_of_data};
 
 use serde_json::Value;
 use sim_base::{OutOfMemory, Step};
@@ -12,7 +11,7 @@ use sim_json::{command_of, fixed, front_two, id_in, list_of, natural_in, two};
 use std::alloc::Global;
 
 /// A step of one of so many players, or None where the item is none.
-#[tactic(auto, unfolding(crate::specs::Steps::step_of, crate::specs::Taking::step_takes))]
+#[tactic(auto, unfolding(crate::specs::StepLists::step_of, crate::specs::Arrivals::step_takes))]
 pub fn step_of(alloc: Global, players: u8, item: &Value) -> Result<Option<Step>, OutOfMemory>
     ensures value { IfOk result (λ step. step ≡ step_of_data players (view item.now)) }
     ensures limits { IfOk result (λ found. IfSome found (IsStep players)) }

@@ -1,16 +1,15 @@
 -- Lines that were answered by the server, and one line more.
-use Rattle.{sim_plain.specs.Messages.Arrival, sim_plain.specs.declared.rules.Rules.Rules, sim_server.specs.Standing.StandsFor, sim_server.specs.Standing.View}
-use Rattle.{sim_plain.specs.Server.Server, sim_plain.specs.Server.server_after, sim_server.specs.Small.IsSmallServer}
-use Rattle.{sim_store.specs.declared.fault.Failed.Failed}
-use Rattle.std.{specs.Io.KnownBytes.IsAtEnd, specs.Prelude.⊤}
-use Rattle.std.proofs.Common.{◌≡◌, ℕ, ◌+◌, ◌-◌, ◌^◌, ◌≤◌, List, [], ◌∷◌, ◌++◌, length, Ok, Err, Result, refl, ap, arith, length-append, subst, sym, ◌∙◌}
-use Rattle.{sim_live.specs.declared.relaying.RelayRules.RelayRules, sim_report.specs.Downs.released_line, sim_server.specs.Standing.server_of}
-use Rattle.sim_live.specs.Relays.{answer, AnswersAll, end_lines, first_text, last_text, next, Relays, rules_of}
-use Rattle.sim_talk.proofs.Talking.{after_lines-more, answered_all, answered_more, ended_so, Extends-nothing, stopped_amid}
-use Rattle.sim_talk.proofs.Talking.{caused, conversed, stopped_first, unheard_behind, unmade_answer, untold_answer}
-use Rattle.sim_talk.specs.Dialogues.{after_lines, Causes, dialogue, EndsAs, TellsText}
-use Rattle.sim_talk.specs.{declared.fault.TalkFault.TalkFault, Talks.Extends, Talks.heard, Talks.Hears, Talks.History, Talks.Tells, Talks.told}
 use Rattle.sim_talk.specs.declared.fault.TalkFault.TheVariants as ends
+use Rattle.sim_live.specs.Relays.{answer, AnswersAll, end_lines, first_text, last_text, next, Relays, rules_of}
+use Rattle.sim_server.specs.Standing.{IsSmallServer, StandsFor, View, server_of}
+use Rattle.sim_talk.proofs.Talking.{after_lines-more, answered_all, answered_more, caused, conversed, ended_so, Extends-nothing, stopped_amid, stopped_first}
+use Rattle.sim_talk.specs.{Dialogues.Causes, Dialogues.EndsAs, Dialogues.TellsText, Dialogues.after_lines, Dialogues.dialogue, Talks.Extends, Talks.Hears}
+use Rattle.sim_talk.specs.{Talks.History, Talks.Tells, Talks.heard, Talks.told, declared.fault.TalkFault.TalkFault}
+use Rattle.std.proofs.Common.{[], ap, arith, Err, length, length-append, List, Ok, refl, Result, subst, sym, ℕ, ◌++◌, ◌+◌, ◌-◌, ◌^◌, ◌∙◌, ◌∷◌, ◌≡◌, ◌≤◌}
+use Rattle.{sim_live.specs.declared.relaying.RelayRules.RelayRules, sim_plain.specs.Messages.Arrival, sim_plain.specs.Server.Server}
+use Rattle.{sim_plain.specs.Server.server_after, sim_plain.specs.declared.rules.Rules.Rules, sim_report.specs.Downs.released_line}
+use Rattle.{sim_store.specs.declared.fault.Failed.Failed, sim_talk.proofs.Talking.unheard_behind, sim_talk.proofs.Talking.unmade_answer}
+use Rattle.{sim_talk.proofs.Talking.untold_answer, std.specs.Io.KnownBytes.IsAtEnd, std.specs.Prelude.⊤}
 
 -- some lines were answered, and the server stands for all that has arrived
 pub record HasAnswered (relay : RelayRules) (server : View) (count before : ℕ) (old new : History) : Type 0 where

@@ -1,11 +1,11 @@
 -- What becomes of a session and of a server that answer a line: the facts of each call by name. A clause passes ⟦<dyn System as System>⟧
 -- for `sys`.
-use Rattle.sim_base.specs.declared.{memory.OutOfMemory.OutOfMemory, step.Step.Step}
-use Rattle.{sim_plain.specs.Messages.Arrival, sim_plain.specs.declared.message.PostOf.PostOf, sim_plain_session.specs.Sessions.session as session_over}
-use Rattle.sim_server.specs.{Small.IsSmallServer, Standing.Answers, Standing.server_of, Standing.StandsFor as ServerStandsFor, Standing.View}
-use Rattle.sim_session.specs.{Going.GoesOnBy, SessionWords.seen_in, SessionWords.setup_in, Standing.StandsFor, declared.session.Session.Session}
-use Rattle.{sim_system.specs.Meanings.Meaning, sim_system.specs.declared.system.System.Ghosts, sim_wire.specs.Fits.IsSmallDown}
-use Rattle.std.specs.Prelude.{◌+◌, ◌≡◌, ◌≤◌, All, IfOk, length, List, OnOk, Result, ℕ}
+use Rattle.sim_server.specs.Standing.{IsSmallServer, StandsFor as ServerStandsFor, View, server_of}
+use Rattle.sim_session.specs.{Going.GoesOnBy, Going.seen_in, Going.setup_in, Standing.StandsFor, declared.session.Session.Session}
+use Rattle.std.specs.Prelude.{IfOk, List, OnOk, Result, length, ℕ, ◌+◌, ◌≡◌, ◌≤◌}
+use Rattle.{sim_base.specs.declared.memory.OutOfMemory.OutOfMemory, sim_base.specs.declared.step.Step.Step, sim_plain.specs.Messages.Arrival}
+use Rattle.{sim_plain.specs.declared.message.PostOf.PostOf, sim_plain_session.specs.Sessions.session as session_over, sim_server.specs.Standing.Answers}
+use Rattle.{sim_system.specs.Meanings.Meaning, sim_system.specs.declared.system.System.Ghosts, sim_wire.specs.Reading.IsSmallDown, std.specs.Prelude.All}
 
 -- of so many there are so many next, and one more at most
 pub record Counts {X : Type 0} (made : ℕ) (next : List X → List X) (n : ℕ) : Type 0 where

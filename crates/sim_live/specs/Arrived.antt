@@ -1,10 +1,10 @@
 -- What arrives by a line.
-use Rattle.{serde_json.specs.Data.Data, sim_base.specs.Limits.IsFrom, sim_json.specs.Values.value_of, sim_wire.specs.Heard.raw}
-use Rattle.std.specs.Prelude.{ℕ, List, Some, None, Option, option_and_then}
-use Rattle.sim_lists.specs.{Arrivals.arrival_of, declared.schedule.Arrival.Arrival, declared.schedule.Said.Said}
-use Rattle.sim_live.specs.declared.arriving.Arriving.{Arriving, TheVariants.Cut, TheVariants.Frame}
 use Rattle.sim_lists.specs.declared.schedule.Said.TheVariants as said
 use Rattle.sim_plain.specs.Messages as plain
+use Rattle.std.specs.Prelude.{List, None, Option, Some, option_and_then, ℕ}
+use Rattle.{serde_json.specs.Data.Data, sim_base.specs.Limits.IsFrom, sim_json.specs.Values.value_of, sim_lists.specs.Arrivals.arrival_of}
+use Rattle.{sim_lists.specs.declared.schedule.Arrival.Arrival, sim_lists.specs.declared.schedule.Said.Said, sim_live.specs.declared.arriving.Arriving.Arriving}
+use Rattle.{sim_live.specs.declared.arriving.Arriving.TheVariants.Cut, sim_live.specs.declared.arriving.Arriving.TheVariants.Frame, sim_wire.specs.Memory.raw}
 
 -- an arrival that is no message in words
 abbrev pub told_by : ℕ → Said → Option Arriving

@@ -1,9 +1,7 @@
 pub mod Looks
-pub mod LineWords
-pub mod Shown
 pub mod Live
+pub mod Shown
 pub mod Answering
 pub mod Reading
-pub mod Spoken
 pub mod Arrived
 pub mod Relays

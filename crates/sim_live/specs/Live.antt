@@ -1,10 +1,34 @@
 -- A session as a talk: what is answered to a line after the steps that were made, and what a whole talk is.
-use Rattle.{sim_base.specs.declared.setup.Setup.Setup, sim_base.specs.declared.step.Step.Step as AnyStep, sim_live.specs.LineWords.line_of}
-use Rattle.sim_live.specs.{Shown.look_text, declared.line.Line.Line, declared.line.Line.TheVariants.Look, declared.line.Line.TheVariants.Other}
-use Rattle.{sim_live.specs.declared.line.Line.TheVariants.Step, sim_plain_session.specs.Printed.events, sim_plain_session.specs.Printed.start_events}
-use Rattle.{sim_plain_session.specs.Sessions.session, sim_session.specs.SessionText.ending_lines, sim_session.specs.SessionText.lines_of}
-use Rattle.sim_talk.specs.{Dialogues.Converses, Marks.ok_line, Marks.refused_line, Talks.History, declared.fault.TalkFault.TalkFault}
-use Rattle.std.specs.Prelude.{[], ◌++◌, ◌+◌, ◌∷◌, length, List, Result, ℕ, ⊤}
+use Rattle.sim_live.specs.declared.line.Line.{Line, TheVariants.Look, TheVariants.Other, TheVariants.Step}
+use Rattle.sim_live.specs.{Looks.IsLook, Looks.look_of, Shown.look_text, declared.look.Look.Look as AnyLook}
+use Rattle.sim_plain_session.specs.Sessions.{events, session, start_events}
+use Rattle.sim_session.specs.{Laws.ending_lines, Laws.lines_of, Standing.Seen, Standing.StandsFor}
+use Rattle.sim_talk.specs.{Dialogues.AnswersLines, Dialogues.Converses, Dialogues.after_lines, Marks.ok_line, Marks.refused_line, Talks.History}
+use Rattle.std.specs.Prelude.{Option, Result, Some, [], length, ℕ, ⊤, ◌++◌, ◌+◌, ◌∷◌}
+use Rattle.{serde_json.specs.Data.Data, sim_base.specs.declared.setup.Setup.Setup, sim_base.specs.declared.step.Step.Step as AnyStep}
+use Rattle.{sim_json.specs.Commands.next_or, sim_json.specs.Values.value_of, sim_lists.specs.StepLists.IsStep, sim_lists.specs.StepLists.step_of}
+use Rattle.{sim_talk.specs.declared.fault.TalkFault.TalkFault, std.specs.Prelude.Err, std.specs.Prelude.List, std.specs.Prelude.None, std.specs.Prelude.Ok}
+
+-- What a line of a talk asks for.
+
+-- a look, or nothing
+abbrev pub looked : Option AnyLook → Line
+looked None = Other
+looked (Some look) = Look look
+
+-- a step, or else a look
+abbrev pub line_in : ℕ → Data → Line
+line_in players d = next_or (step_of players d) (looked (look_of players d)) Step
+
+-- a line is the value of its text
+abbrev pub line_of : ℕ → List ℕ → Line
+line_of players line = next_or (value_of line) Other (line_in players)
+
+-- a step or a look of one of so many players
+abbrev pub IsLine : ℕ → Line → Type 0
+IsLine players (Step step) = IsStep players step
+IsLine players (Look look) = IsLook players look
+IsLine players Other = Unit {0}
 
 -- to a step the lines of its events, to a look what it shows, and to anything else that it is refused, with the number of the step that
 -- was made, or that would have been
@@ -37,3 +61,15 @@ last_text setup clients steps = ending_lines setup (session setup clients steps)
 -- a talk over a session of a match that begins with so many clients
 abbrev pub Lives : Result ⊤ TalkFault → Setup → ℕ → History → History → Type 0
 Lives result setup clients old new = Converses result (answer setup clients) (next setup) (last_text setup clients) [] (first_text setup clients) old new
+
+-- What the parts of a talk over a session come to.
+
+-- where all lines were answered, the session stands for that over their steps
+abbrev pub StandsAfter : Result ⊤ TalkFault → Setup → ℕ → Seen → List (List ℕ) → Type 0
+StandsAfter (Ok done) setup clients seen lines = StandsFor setup seen (session setup clients (after_lines (next setup) [] lines))
+StandsAfter (Err fault) setup clients seen lines = Unit {0}
+
+-- some lines were answered, and the session stands for that over their steps; or it stopped, with at most one line more
+abbrev pub AnswersAll : Result ⊤ TalkFault → Setup → ℕ → Seen → History → History → Type 0
+AnswersAll result setup clients seen old new =
+    (lines : List (List ℕ)) × StandsAfter result setup clients seen lines × AnswersLines result (answer setup clients) (next setup) [] lines old new

@@ -1,10 +1,10 @@
 //! What is answered to a line: the whole text is made before any of it is told.
 
-ghost use Rattle.{sim_base.specs.declared.step.Step.Step as AnyStep, sim_lists.specs.StepLists.IsStep};
-ghost use Rattle.sim_live.specs.{Answering.Counts, Answering.Follows, LineWords.IsLine, Live.answer as answer_of, Live.answer_to, Live.next, Live.steps_with};
-ghost use Rattle.sim_plain_session.specs.{Printed.events as events_in, Sessions.session as session_over};
-ghost use Rattle.sim_session.specs.{Going.IsOn, SessionText.lines_of, SessionWords.seen_in, SessionWords.setup_in, Standing.StandsFor};
-ghost use Rattle.std.specs.Prelude.{[], ◌++◌, ◌+◌, ◌<◌, ◌^◌, ◌∷◌, ◌≡◌, ◌≤◌, IfOk, length, List, OnOk, string_bytes, ℕ};
+ghost use Rattle.std.specs.Prelude.{[], IfOk, length, List, OnOk, string_bytes, ℕ, ◌++◌, ◌+◌, ◌<◌, ◌^◌, ◌∷◌, ◌≡◌, ◌≤◌};
+ghost use Rattle.sim_live.specs.{Answering.Follows, Live.IsLine, Live.answer as answer_of, Live.answer_to, Live.next, Live.steps_with};
+ghost use Rattle.sim_session.specs.{Going.seen_in, Going.setup_in, Laws.lines_of, Standing.StandsFor};
+ghost use Rattle.{sim_base.specs.declared.step.Step.Step as AnyStep, sim_lists.specs.StepLists.IsStep, sim_live.specs.Answering.Counts};
+ghost use Rattle.{sim_plain_session.specs.Sessions.events as events_in, sim_plain_session.specs.Sessions.session as session_over, sim_session.specs.Going.IsOn};
 
 use crate::line::{Line, line_of};
 use crate::looking::push_look;

@@ -1,7 +1,7 @@
 //! What a line asks for: a step of the session, or a look at it. Any other line asks for nothing.
 
 ghost use Rattle.serde_json.specs.View.{view};
-ghost use Rattle.sim_live.specs.{LineWords.IsLine, LineWords.line_in as line_in_data, LineWords.line_of as line_of_bytes, Reading.Reads};
+ghost use Rattle.sim_live.specs.{Live.IsLine, Live.line_in as line_in_data, Live.line_of as line_of_bytes, Reading.Reads};
 
 use crate::look::{Look, look_of};
 use serde_json::Value;

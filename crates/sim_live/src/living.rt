@@ -1,12 +1,11 @@
 //! The whole talk: the session begins, each line is answered before the next one is heard, and at the end of the input it is told what
 //! the session has come to. However it ends, all that was told is written then.
 
-ghost use Rattle.{sim_base.specs.declared.step.Step.Step as AnyStep, sim_session.specs.Standing.StandsFor};
-ghost use Rattle.{sim_plain_session.specs.Sessions.session as session_over, sim_talk.specs.Dialogues.Causes, sim_talk.specs.Dialogues.TellsText};
-ghost use Rattle.std.specs.Prelude.{◌≡◌, ◌≤◌, List, []};
-ghost use Rattle.sim_live.specs.{Live.first_text, Live.last_text, Live.Lives, Spoken.AnswersAll};
-ghost use Rattle.sim_session.specs.Going.{ComeBack, GoesOn, HasOpened, Keeps, MayBegin};
-ghost use Rattle.sim_session.specs.SessionWords.{IsSession, seen_in, setup_in};
+ghost use Rattle.std.specs.Prelude.{[], List, ◌≡◌, ◌≤◌};
+ghost use Rattle.sim_session.specs.Going.{ComeBack, GoesOn, HasOpened, IsSession, Keeps, MayBegin, seen_in, setup_in};
+ghost use Rattle.sim_talk.specs.Dialogues.{Causes, TellsText};
+ghost use Rattle.{sim_base.specs.declared.step.Step.Step as AnyStep, sim_live.specs.Live.AnswersAll, sim_live.specs.Live.Lives, sim_live.specs.Live.first_text};
+ghost use Rattle.{sim_live.specs.Live.last_text, sim_plain_session.specs.Sessions.session as session_over, sim_session.specs.Standing.StandsFor};
 
 use crate::answering::answer;
 use sim_base::{OutOfMemory, Setup};

@@ -1,10 +1,10 @@
 //! The whole talk with the server: it begins, each line is answered before the next one is heard, and at the end of the input it is told what
 //! the server has come to. However it ends, all that was told is written then.
 
-ghost use Rattle.{sim_report.specs.Downs.released_line, sim_talk.specs.Dialogues.Causes, sim_talk.specs.Dialogues.TellsText};
-ghost use Rattle.std.specs.Prelude.{◌≡◌, []};
-ghost use Rattle.sim_live.specs.Relays.{AnswersAll, end_lines, IsRelay, Relays, rules_of};
-ghost use Rattle.sim_server.specs.{Small.IsSmallServer, Standing.server_of, Standing.StandsFor};
+ghost use Rattle.std.specs.Prelude.{[], ◌≡◌};
+ghost use Rattle.sim_live.specs.Relays.{AnswersAll, IsRelay, Relays, end_lines, rules_of};
+ghost use Rattle.{sim_report.specs.Downs.released_line, sim_server.specs.Standing.IsSmallServer, sim_server.specs.Standing.StandsFor};
+ghost use Rattle.{sim_server.specs.Standing.server_of, sim_talk.specs.Dialogues.Causes, sim_talk.specs.Dialogues.TellsText};
 
 use crate::replying::reply;
 use sim_base::OutOfMemory;

@@ -1,10 +1,10 @@
 //! What is answered to a line: a line of each message that the server says at the arrival, as the frame in which it goes.
 
-ghost use Rattle.{sim_plain.specs.Messages.Arrival as PlainArrival, sim_wire.specs.Fits.IsSmallDown, sim_wire.specs.Heard.raw};
-ghost use Rattle.std.specs.Prelude.{◌≡◌, ℕ, ◌+◌, ◌^◌, ◌<◌, ◌≤◌, List, ◌++◌, length, IfOk, OnOk, string_bytes, All, flat_map};
-ghost use Rattle.sim_live.specs.Answering.{Counts, Says, StaysSmall};
-ghost use Rattle.sim_live.specs.{Arrived.IsFromOne, Arrived.plain_of, Relays.answer as answer_of, Relays.frame_line, Relays.next};
-ghost use Rattle.sim_server.specs.{Small.IsSmallServer, Standing.IsClient, Standing.server_of, Standing.StandsFor};
+ghost use Rattle.std.specs.Prelude.{All, flat_map, IfOk, length, List, OnOk, string_bytes, ℕ, ◌++◌, ◌+◌, ◌<◌, ◌^◌, ◌≡◌, ◌≤◌};
+ghost use Rattle.sim_live.specs.{Answering.Counts, Answering.Says, Answering.StaysSmall, Arrived.IsFromOne, Arrived.plain_of, Relays.answer as answer_of};
+ghost use Rattle.sim_server.specs.Standing.{IsClient, IsSmallServer, StandsFor, server_of};
+ghost use Rattle.sim_wire.specs.{Memory.raw, Reading.IsSmallDown};
+ghost use Rattle.{sim_live.specs.Relays.frame_line, sim_live.specs.Relays.next, sim_plain.specs.Messages.Arrival as PlainArrival};
 
 use crate::arriving::{Arriving, arriving_of};
 use sim_base::OutOfMemory;

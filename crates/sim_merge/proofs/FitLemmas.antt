@@ -1,11 +1,13 @@
 -- A sound tree laid over a resolved one is resolved: it ascends by name, has no marks, and has no more levels.
+use Rattle.sim_base.proofs.Tests.{left_true, right_true}
 use Rattle.sim_merge.proofs.ChildrenLemmas.{are_sound-rest, is_least-before, is_least-rest, is_sound-first}
-use Rattle.sim_merge.proofs.Common.{Node, node, over_children, product_of, refused, Replace, sum_of, there, Tokens, under, Value, value_of, value_over}
-use Rattle.sim_merge.proofs.Common.{are_plain, are_sound, arith, bears, before, behind, child, child_named, Children, Disable, followed_by, is_before, is_least}
-use Rattle.sim_merge.proofs.Common.{is_plain, is_sound, laid, laid_under, Laying, levels, levels_under, lower_children, lower_value, Merge, Mul, no_children}
-use Rattle.sim_merge.proofs.Common.{with_laid, with_lower, with_value, words_over}
-use Rattle.sim_merge.proofs.Common.{◌≡◌, ℕ, zero, suc, ◌≤◌, Bool, true, false, ◌&&◌, List, if◌then◌else◌, Some, None, bytes_eq, Option, refl, absent, Add}
-use Rattle.{sim_base.proofs.Tests.left_true, sim_base.proofs.Tests.right_true, std.proofs.lemmas.Bool.and_from}
+use Rattle.sim_merge.proofs.Common.{Children, Disable, false, followed_by, if◌then◌else◌, inherited, is_before, is_layable, is_least, is_none, is_plain}
+use Rattle.sim_merge.proofs.Common.{Replace, slice_get, Some, subst, suc, sum_of, sym, there, Tokens, TreeMark, true, true≢false, under, Value, value_of}
+use Rattle.sim_merge.proofs.Common.{[], absent, Add, are_plain, are_sound, arith, bears, before, behind, Bool, bytes_eq, chain_root, child, child_named}
+use Rattle.sim_merge.proofs.Common.{is_resolved, is_sound, laid, laid_under, laid_unmarked, Laying, levels, levels_under, List, list_all, lower_children}
+use Rattle.sim_merge.proofs.Common.{lower_value, mark_of, Merge, Mul, nat_le, no_children, Node, node, None, Option, over_children, product_of, refl, refused}
+use Rattle.sim_merge.proofs.Common.{value_over, with_laid, with_lower, with_value, words_over, zero, ℕ, ◌&&◌, ◌∙◌, ◌∷◌, ◌≡◌, ◌≤◌}
+use Rattle.std.proofs.lemmas.Bool.{and_from, le-leb, leb-true}
 
 -- ---- what a resolved tree meets, with so many levels at most
 
@@ -214,3 +216,79 @@ mutual
       step k name lower os o (laid (child_named name lower) o) (laid_under (behind name lower) os) fit (is_least-rest name o os sound)
       (fit-laid k (child_named name lower) o (fit-named k name lower fit) (is_sound-first name o os sound) (omega (arith, few)))
       (fit-laid_under k (behind name lower) os (fit-behind k name lower fit) (are_sound-rest name o os sound) (omega (arith, few)))
+
+-- Trees of a library, and trees that may be laid over them.
+
+pub fit-is_resolved : (n : Node) → is_resolved n ≡ true → IsFit 32 n
+fit-is_resolved n e =
+    let rest = right_true (is_sound n) (is_plain n && nat_le (levels n) 32) e in
+    record {
+      sound = left_true (is_sound n) (is_plain n && nat_le (levels n) 32) e;
+      plain = left_true (is_plain n) (nat_le (levels n) 32) rest;
+      few = leb-true (levels n) 32 (right_true (is_plain n) (nat_le (levels n) 32) rest);
+    }
+
+is_resolved-fit : (n : Node) → IsFit 32 n → is_resolved n ≡ true
+is_resolved-fit n fit =
+    and_from (is_sound n) (is_plain n && nat_le (levels n) 32) fit.sound
+    (and_from (is_plain n) (nat_le (levels n) 32) fit.plain (le-leb (levels n) 32 fit.few))
+
+pub is_sound-layable : (n : Node) → is_layable n ≡ true → is_sound n ≡ true
+is_sound-layable n e = left_true (is_sound n) (is_none (mark_of n) && nat_le (levels n) 32) e
+
+none-is_none : (mark : Option TreeMark) → is_none mark ≡ true → mark ≡ None
+none-is_none None e = refl
+none-is_none (Some mark) e = absurd (true≢false (sym e))
+
+pub mark_of-layable : (n : Node) → is_layable n ≡ true → mark_of n ≡ None
+mark_of-layable n e =
+    none-is_none (mark_of n) (left_true (is_none (mark_of n)) (nat_le (levels n) 32) (right_true (is_sound n) (is_none (mark_of n) && nat_le (levels n) 32) e))
+
+levels-layable : (n : Node) → is_layable n ≡ true → levels n ≤ 32
+levels-layable n e =
+    leb-true (levels n) 32 (right_true (is_none (mark_of n)) (nat_le (levels n) 32) (right_true (is_sound n) (is_none (mark_of n) && nat_le (levels n) 32) e))
+
+abbrev pub IsGood : Node → Type 0
+IsGood n = is_resolved n ≡ true
+
+weaker : (laying : Laying) → IfThere (IsFit 32) laying → IfThere IsGood laying
+weaker refused fit = tt
+weaker absent fit = tt
+weaker (there n) fit = is_resolved-fit n fit
+
+-- what is laid over a resolved tree is resolved
+pub laid-resolved : (lower upper : Node) → is_resolved lower ≡ true → is_layable upper ≡ true → IfThere IsGood (laid (Some lower) upper)
+laid-resolved lower upper e f = weaker (laid (Some lower) upper) (fit-laid 32 (Some lower) upper (fit-is_resolved lower e) (is_sound-layable upper f)
+    (levels-layable upper f))
+
+pub there-resolved : (laying : Laying) (n : Node) → laying ≡ there n → IfThere IsGood laying → is_resolved n ≡ true
+there-resolved laying n e good = let P : Laying → Type 0 = λ l. IfThere IsGood l in subst P e good
+
+-- an upper node without a mark
+laid-by_mark : (lower : Option Node) (upper : Node) (mark : Option TreeMark) → mark_of upper ≡ mark → mark ≡ None → laid lower upper ≡ laid_unmarked lower upper
+laid-by_mark lower (node value None os) mark e f = refl
+laid-by_mark lower (node value (Some m) os) mark e f = absurd (differ m (e ∙ f))
+  where
+    differ : (m : TreeMark) → Some m ≡ None → ⊥
+    differ m e = cc
+
+pub laid-unmarked : (lower : Option Node) (upper : Node) → mark_of upper ≡ None → laid lower upper ≡ laid_unmarked lower upper
+laid-unmarked lower upper e = laid-by_mark lower upper None e refl
+
+-- ---- the tree of a chain
+
+pub if-all : (p : Node → Bool) (roots : List Node) (number : ℕ) → list_all p roots ≡ true → IfNode (λ n. p n ≡ true) (slice_get roots number)
+if-all p [] number all = tt
+if-all p (root ∷ roots) zero all = left_true (p root) (list_all p roots) all
+if-all p (root ∷ roots) (suc number) all = if-all p roots number (right_true (p root) (list_all p roots) all)
+
+inherited-resolved : (lower : Laying) (own : Option Node) → IfThere IsGood lower → IfNode (λ n. is_layable n ≡ true) own → IfThere IsGood (inherited lower own)
+inherited-resolved refused own good layable = tt
+inherited-resolved absent own good layable = tt
+inherited-resolved (there lower) None good layable = tt
+inherited-resolved (there lower) (Some own) good layable = laid-resolved lower own good layable
+
+pub chain_root-resolved : (roots : List Node) (chain : List ℕ) → list_all is_layable roots ≡ true → IfThere IsGood (chain_root roots chain)
+chain_root-resolved roots [] all = refl
+chain_root-resolved roots (number ∷ chain) all =
+    inherited-resolved (chain_root roots chain) (slice_get roots number) (chain_root-resolved roots chain all) (if-all is_layable roots number all)

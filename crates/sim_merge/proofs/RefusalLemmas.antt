@@ -1,13 +1,13 @@
 -- What is laid over a tree is refused exactly where an operation at a met path is.
-use Rattle.sim_merge.proofs.{FitLemmas.IfNode, PathLemmas.sound-named, PathLemmas.unrefused, ResolvedLemmas.fit-is_resolved, ResolvedLemmas.is_sound-layable}
-use Rattle.sim_merge.proofs.{ChildrenLemmas.are_sound-rest, ChildrenLemmas.is_least-rest, ChildrenLemmas.is_sound-first, NameOrder.bytes_eq-before}
-use Rattle.sim_merge.proofs.Common.{Tokens, true≢false, under, Value, value_of, value_over, with_laid, with_lower, with_value, ⊎_elim, ◌∙◌}
-use Rattle.sim_merge.proofs.Common.{are_sound, at, at_child, at_if, before, behind, below_if, bytes_eq-Decides, child, child_named, Children, cond-false}
-use Rattle.sim_merge.proofs.Common.{cond-true, Disable, false_from_ne_true, fun_ext, HasLaid, inl, inr, is_bad, is_before, is_layable, is_least, is_refused_at}
-use Rattle.sim_merge.proofs.Common.{is_resolved, is_sound, IsRefused, laid, laid_under, Laying, laying_at, lower_at, lower_children, lower_value, Merge, Mul}
-use Rattle.sim_merge.proofs.Common.{no_children, Node, node, over_children, Path, Paths, paths_if, product_of, refused, Replace, subst, sum_of, sym, there}
-use Rattle.sim_merge.proofs.Common.{◌≡◌, ℕ, Bool, true, false, ◌⊎◌, List, [], ◌∷◌, is_none, Some, None, bytes_eq, Option, refl, absent, Add, ap}
+use Rattle.sim_merge.proofs.ChildrenLemmas.{are_sound-rest, bytes_eq-before, is_least-rest, is_sound-first}
+use Rattle.sim_merge.proofs.Common.{Path, Paths, paths_if, product_of, refl, refused, Replace, Some, subst, sum_of, sym, there, Tokens, true, true≢false, under}
+use Rattle.sim_merge.proofs.Common.{Value, value_of, value_over, with_laid, with_lower, with_value, ℕ, ⊎_elim, ◌∙◌, ◌∷◌, ◌≡◌, ◌⊎◌}
+use Rattle.sim_merge.proofs.Common.{[], absent, Add, ap, are_sound, at, at_child, at_if, before, behind, below_if, Bool, bytes_eq, bytes_eq-Decides, child}
+use Rattle.sim_merge.proofs.Common.{child_named, Children, cond-false, cond-true, Disable, false, false_from_ne_true, fun_ext, HasLaid, inl, inr, is_bad}
+use Rattle.sim_merge.proofs.Common.{is_before, is_layable, is_least, is_none, is_refused_at, is_resolved, is_sound, IsRefused, laid, laid_under, Laying}
+use Rattle.sim_merge.proofs.Common.{laying_at, List, lower_at, lower_children, lower_value, Merge, Mul, no_children, Node, node, None, Option, over_children}
 use Rattle.sim_merge.proofs.PathLemmas.{at_child-named, below_if-paths_if, child_named-behind, lay-laid, merged, named-laid_under, root_value-paths_if}
+use Rattle.sim_merge.proofs.{FitLemmas.IfNode, FitLemmas.fit-is_resolved, FitLemmas.is_sound-layable, PathLemmas.sound-named, PathLemmas.unrefused}
 use Rattle.{sim_base.proofs.Tests.left_true, sim_base.proofs.Tests.right_true, std.proofs.lemmas.Bool.and_right}
 
 -- ---- below a name

@@ -1,7 +1,6 @@
 -- A set of texts, and what it has once a text is put in.
-use Rattle.sim_merge.proofs.Common.{UpdatesBy, ◌∙◌}
-use Rattle.sim_merge.proofs.Common.{btree_set_updates_text, BTreeSet, bytes_eq-Decides, contains_text, false_from_ne_true, nat_cmp, slice_cmp, sym, true≢false}
-use Rattle.sim_merge.proofs.Common.{◌≡◌, ℕ, Bool, true, false, cond, not, ◌&&◌, ◌||◌, List, string_bytes, string_cmp, bytes_eq, String, refl, ap}
+use Rattle.sim_merge.proofs.Common.{ap, Bool, bytes_eq, cond, false, List, nat_cmp, not, refl, slice_cmp, String, sym, true, UpdatesBy, ℕ, ◌&&◌, ◌||◌, ◌∙◌, ◌≡◌}
+use Rattle.sim_merge.proofs.Common.{btree_set_updates_text, BTreeSet, bytes_eq-Decides, contains_text, false_from_ne_true, string_bytes, string_cmp, true≢false}
 
 -- ---- equal bytes, and the cases of a change
 

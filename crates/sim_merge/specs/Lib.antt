@@ -1,11 +1,4 @@
 pub mod NodeCodes
 pub mod Libraries
-pub mod Faults
-pub mod Values
-pub mod Survivors
-pub mod Operations
-pub mod Laying
-pub mod Merging
 pub mod Overlay
 pub mod Resolution
-pub mod Keeping

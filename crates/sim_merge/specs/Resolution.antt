@@ -1,10 +1,10 @@
 -- The resolved trees of templates, each with all that it inherits, or the first template that has none.
-use Rattle.std.specs.{List.list_any, List.range_with_len, Str.bytes_eq}
-use Rattle.std.specs.Prelude.{slice_get, slice_index_or, Some, None, Ok, Err, position, filter_map, Option, Result, option_map, option_and_then}
-use Rattle.std.specs.Prelude.{ℕ, zero, suc, Bool, true, false, not, ◌&&◌, ◌||◌, List, [], ◌∷◌, map, length, is_some, is_none, if◌then◌else◌, nat_lt, ◌==◌}
-use Rattle.sim_merge.specs.Laying.{absent, laid, Laying, refused, there}
 use Rattle.sim_merge.specs.declared.fault.MergeFault.{MergeFault, TheVariants.BadOp, TheVariants.ChainTooLong, TheVariants.Cycle, TheVariants.NoParent}
-use Rattle.sim_tree.specs.{Sources.Origin, Sources.origin_of, Trees.no_children, Trees.Node, Trees.node, declared.source.Source.Source}
+use Rattle.sim_merge.specs.{Libraries.is_resolved, Overlay.Laying, Overlay.absent, Overlay.laid, Overlay.refused, Overlay.there}
+use Rattle.sim_tree.specs.{Nodes.Origin, Nodes.origin_of, Trees.Node, Trees.no_children, Trees.node, Trees.node_of, declared.source.Source.Source}
+use Rattle.std.specs.Prelude.{Bool, Err, false, List, map, None, not, Ok, Option, Result, Some, suc, true, zero, ℕ, ◌&&◌, ◌<◌, ◌==◌, ◌||◌, ◌∷◌, ◌≡◌}
+use Rattle.std.specs.Prelude.{[], filter_map, if◌then◌else◌, is_none, is_some, length, nat_lt, option_and_then, option_map, position, slice_get, slice_index_or}
+use Rattle.{sim_tree.specs.declared.tree.Tree.Tree, std.specs.List.list_all, std.specs.List.list_any, std.specs.List.range_with_len, std.specs.Str.bytes_eq}
 
 -- ---- names
 
@@ -146,3 +146,39 @@ with_chains parents roots = unless (chain_refusal parents) (with_roots (layings 
 -- a refused operation
 abbrev pub resolution_of : List Origin → Result (List Node) MergeFault
 resolution_of origins = unless (orphan_refusal origins) (with_chains (parents_in origins) (roots_in origins))
+
+-- What is known of parents, chains and trees while templates are resolved.
+
+-- each parent's number is that of a template
+pub record AreWithin (parents : List (Option ℕ)) : Type 0 where
+  pub within : (number parent : ℕ) → slice_index_or parents number None ≡ Some parent → parent < length parents
+
+-- and each chain ends
+pub record IsForest (parents : List (Option ℕ)) : Type 0 where
+  pub within : AreWithin parents
+  pub ended : (number : ℕ) → number < length parents → is_endless (members parents number) ≡ false
+
+-- a chain passes, or the fault is that of the chain
+abbrev pub ChainMeets : Result (Unit {0}) MergeFault → List ℕ → ℕ → Type 0
+ChainMeets (Ok _) chain number = is_endless chain ≡ false
+ChainMeets (Err fault) chain number = (is_endless chain ≡ true) × (fault ≡ chain_fault number chain)
+
+-- a tree is kept for this template
+pub record Has (kept : List (Option Tree)) (number : ℕ) : Type 0 where
+  pub tree : Tree
+  pub is : slice_index_or kept number None ≡ Some tree
+
+-- each tree that is kept is the one of its template
+pub record IsKept (parents : List (Option ℕ)) (roots : List Node) (kept : List (Option Tree)) : Type 0 where
+  pub same : length kept ≡ length parents
+  pub trees : (number : ℕ) (tree : Tree) → slice_index_or kept number None ≡ Some tree → chain_root roots (members parents number) ≡ there (node_of tree)
+
+-- for each template that had a tree, one is kept still
+pub record KeepsAll (old new : List (Option Tree)) : Type 0 where
+  pub stays : (number : ℕ) → Has old number → Has new number
+
+-- the trees are those of the templates, each of them resolved
+pub record AreResolved (parents : List (Option ℕ)) (roots : List Node) (trees : List Tree) : Type 0 where
+  pub count : length trees ≡ length parents
+  pub is : map node_of trees ≡ filter_map root_there (layings parents roots)
+  pub resolved : list_all is_resolved (map node_of trees) ≡ true

@@ -1,10 +1,10 @@
 //! Chains of parents: the numbers of parents, and the first template whose chain has no end.
 
-ghost use Rattle.{sim_merge.specs.Keeping.AreWithin, sim_merge.specs.Keeping.ChainMeets, sim_merge.specs.Keeping.IsForest, sim_tree.specs.Sources.origin_of};
-ghost use Rattle.std.specs.{List.list_any, Prelude.position, Str.bytes_eq};
-ghost use Rattle.std.specs.Prelude.{◌≡◌, ℕ, ◌<◌, ◌≤◌, true, List, ◌∷◌, ◌++◌, map, length, IfSome, IfOk, OnOk, ◌==◌, MatchResult, Some, None, string_bytes};
-ghost use Rattle.sim_merge.specs.{Faults.IfRefusal, Resolution.parent_among, Resolution.parents_in, Resolution.repeats as repeats_in};
-ghost use Rattle.sim_merge.specs.Resolution.{are_distinct, chain_refusal, is_orphan as is_orphan_among, members, names_in, origins_of, orphan_refusal};
+ghost use Rattle.std.specs.Prelude.{IfOk, IfSome, length, List, map, MatchResult, None, OnOk, position, Some, string_bytes, true, ℕ, ◌++◌, ◌<◌, ◌==◌, ◌∷◌, ◌≡◌};
+ghost use Rattle.std.specs.{List.list_any, Prelude.◌≤◌, Str.bytes_eq};
+ghost use Rattle.sim_merge.specs.Resolution.{are_distinct, AreWithin, chain_refusal, ChainMeets, is_orphan as is_orphan_among, IsForest, members, names_in};
+ghost use Rattle.sim_merge.specs.Resolution.{origins_of, orphan_refusal, parent_among, parents_in, repeats as repeats_in};
+ghost use Rattle.{sim_merge.specs.Overlay.IfRefusal, sim_tree.specs.Nodes.origin_of};
 
 use crate::fault::MergeFault;
 use indexmap::IndexSet;

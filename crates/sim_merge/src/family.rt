@@ -1,11 +1,11 @@
 //! Templates beside the numbers of their parents, and how each is resolved: its own tree is laid over that of its parent,
 //! which is resolved before it and kept.
 
-ghost use Rattle.std.specs.{List.cons_option, List.list_all, Prelude.Some, Prelude.None, Prelude.filter_map, Prelude.slice_get, Prelude.slice_index_or};
-ghost use Rattle.std.specs.Prelude.{◌≡◌, ◌<◌, ◌≤◌, ◌++◌, ◌^◌, true, [], length, replicate, IfErr, IfOk, IsTrue, MatchResult, OnOk};
-ghost use Rattle.sim_merge.specs.{Faults.IfBadOp, Faults.IfRefusal, Faults.refusal_at, Keeping.AreResolved, Keeping.Has, Keeping.IsForest, Keeping.IsKept};
-ghost use Rattle.sim_merge.specs.{Keeping.KeepsAll, Laying.refused, Laying.there, Libraries.is_layable, Libraries.is_resolved, Merging.IsTreeOf};
-ghost use Rattle.sim_merge.specs.Resolution.{bare as bare_node, chain_root, inherited, layings, members, origins_of, root_refusal, roots_in};
+ghost use Rattle.std.specs.Prelude.{[], filter_map, IfErr, IfOk, IsTrue, length, MatchResult, None, OnOk, replicate, slice_get, slice_index_or, Some, true};
+ghost use Rattle.std.specs.{List.cons_option, List.list_all, Prelude.◌++◌, Prelude.◌<◌, Prelude.◌^◌, Prelude.◌≡◌, Prelude.◌≤◌};
+ghost use Rattle.sim_merge.specs.Resolution.{AreResolved, bare as bare_node, chain_root, Has, inherited, IsForest, IsKept, KeepsAll, layings, members};
+ghost use Rattle.sim_merge.specs.{Libraries.is_layable, Libraries.is_resolved, Overlay.IfBadOp, Overlay.IfRefusal, Overlay.IsTreeOf, Overlay.refusal_at};
+ghost use Rattle.sim_merge.specs.{Overlay.refused, Overlay.there, Resolution.origins_of, Resolution.root_refusal, Resolution.roots_in};
 ghost use Rattle.sim_tree.specs.Trees.{node_of};
 
 use crate::{MergeFault, OverlayFault, overlay};

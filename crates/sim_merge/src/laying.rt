@@ -1,10 +1,9 @@
 //! A tree laid over another one: the two are walked at once, by their marks and by the names of their children.
 
-ghost use Rattle.std.specs.Prelude.{◌≡◌, true, IfOk, IfErr, IsTrue, MatchResult, Some, None, Ok, Err, Option};
-ghost use Rattle.sim_merge.specs.{Faults.IfBadOp, Libraries.is_layable, Libraries.is_resolved, Overlay.HasLaid, Overlay.IsRefused};
-ghost use Rattle.sim_merge.specs.{Operations.function_of, Values.value_by, Values.value_over as value_over_value, Values.words_over as words_over_words};
-ghost use Rattle.sim_merge.specs.Laying.{laid, laid_under, lower_children, lower_value, refused, there, with_value};
-ghost use Rattle.sim_merge.specs.Merging.{is_sound_if, IsTreeOf, laid_unmarked, laying_of, node_if};
+ghost use Rattle.std.specs.Prelude.{Err, IfErr, IfOk, IsTrue, MatchResult, None, Ok, Option, Some, true, ◌≡◌};
+ghost use Rattle.sim_merge.specs.Overlay.{function_of, HasLaid, IfBadOp, is_sound_if, IsRefused, IsTreeOf, laid, laid_under, laid_unmarked, laying_of};
+ghost use Rattle.sim_merge.specs.Overlay.{lower_children, lower_value, node_if, refused, there, value_by, value_over as value_over_value, with_value};
+ghost use Rattle.sim_merge.specs.{Libraries.is_layable, Libraries.is_resolved, Overlay.words_over as words_over_words};
 ghost use Rattle.sim_tree.specs.Trees.{are_sound, mark_of, node, node_of, nodes_of, value_of as value_of_node};
 
 use crate::fault::OverlayFault;

@@ -1,9 +1,9 @@
 //! Children by name: copies of them, and the places that a name has among children that ascend.
 
-ghost use Rattle.std.specs.{Option.option_copied, Str.bytes_eq};
-ghost use Rattle.std.specs.Prelude.{◌≡◌, true, [], ◌∷◌, IfOk, OnOk, Some, None, Option};
-ghost use Rattle.sim_merge.specs.Laying.{before, behind as nodes_behind, followed_by, lower_children, lower_value, with_laid, with_lower};
-ghost use Rattle.sim_merge.specs.Merging.{is_sound_if, IsPast, laying_of, node_if};
+ghost use Rattle.std.specs.{Option.option_copied, Prelude.IfOk, Prelude.None, Prelude.OnOk, Prelude.Option, Prelude.Some, Prelude.[], Prelude.true};
+ghost use Rattle.std.specs.{Prelude.◌∷◌, Prelude.◌≡◌, Str.bytes_eq};
+ghost use Rattle.sim_merge.specs.Overlay.{before, behind as nodes_behind, followed_by, is_sound_if, IsPast, laying_of, lower_children, lower_value, node_if};
+ghost use Rattle.sim_merge.specs.Overlay.{with_laid, with_lower};
 ghost use Rattle.sim_tree.specs.Trees.{are_sound, child, child_named, Children, is_before, named_of, no_children, node_of, nodes_of};
 
 use sim_base::OutOfMemory;

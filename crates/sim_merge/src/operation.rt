@@ -1,8 +1,8 @@
 //! Sums and products of values, which are read as numbers and printed again.
 
-ghost use Rattle.std.specs.{Option.option_copied, Prelude.◌≡◌, Prelude.IfOk, Prelude.MatchResult, Prelude.Some, Prelude.None};
+ghost use Rattle.std.specs.{Option.option_copied, Prelude.IfOk, Prelude.MatchResult, Prelude.None, Prelude.Some, Prelude.◌≡◌};
 ghost use Rattle.sim_base.specs.NumberText.{text_of};
-ghost use Rattle.sim_merge.specs.{Faults.IfBadOp, Operations.function_of, Operations.number_by, Values.text_by, Values.value_by};
+ghost use Rattle.sim_merge.specs.Overlay.{function_of, IfBadOp, number_by, text_by, value_by};
 
 use crate::fault::OverlayFault;
 use sim_base::{Fixed, OutOfMemory};

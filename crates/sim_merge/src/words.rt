@@ -5,11 +5,11 @@
 //! each word is looked up in a set and never in a list, and n words take about n steps times their logarithm. The sets are
 //! ordered trees: whoever writes a match picks its words, and could pick ones that a hash with a known seed gives one place.
 
-ghost use Rattle.{sim_tree.specs.Tokens.tokens_in as words_of_value, std.specs.Option.option_copied, std.specs.Str.bytes_eq};
-ghost use Rattle.std.specs.{BTreeSet.contains_text, List.join_with_byte, List.list_any, Prelude.None, Prelude.string_bytes, Prelude.fold, Prelude.filter};
-ghost use Rattle.std.specs.Prelude.{◌≡◌, ℕ, true, false, not, ◌&&◌, ◌||◌, List, [], ◌∷◌, ◌++◌, reverse, drop, IfOk, if◌then◌else◌, OnOk, MatchOption, Some};
-ghost use Rattle.sim_merge.specs.Survivors.{AreChanges, TellsLacking, TellsWords, with_added as with_added_word};
-ghost use Rattle.sim_merge.specs.Values.{including, is_removal, words_over as words_over_words};
+ghost use Rattle.std.specs.Prelude.{[], drop, false, filter, fold, IfOk, if◌then◌else◌, List, MatchOption, None, not, OnOk, reverse, Some, string_bytes, true};
+ghost use Rattle.std.specs.{BTreeSet.contains_text, List.join_with_byte, List.list_any, Option.option_copied, Prelude.ℕ, Prelude.◌&&◌, Prelude.◌++◌};
+ghost use Rattle.std.specs.{Prelude.◌||◌, Prelude.◌∷◌, Prelude.◌≡◌, Str.bytes_eq};
+ghost use Rattle.sim_merge.specs.Overlay.{AreChanges, including, is_removal, TellsLacking, TellsWords, with_added as with_added_word};
+ghost use Rattle.{sim_merge.specs.Overlay.words_over as words_over_words, sim_tree.specs.Tokens.tokens_in as words_of_value};
 
 use sim_base::OutOfMemory;
 use sim_tree::{Names, Text, tokens_in};

@@ -1,10 +1,10 @@
 -- How the code speaks of rows that move.
-use Rattle.{sim_motion.specs.declared.course.Course.Course, sim_motion.specs.declared.moves.Moved.Moved, sim_system.specs.declared.Way.Way}
-use Rattle.std.specs.Prelude.{◌≡◌, ℕ, Bool, true, false, ◌⊎◌, List, [], Some, None, Option}
-use Rattle.sim_base.specs.{Move.along, Move.along_found, Move.walked, Validity.IsInside, declared.setup.Setup.Setup}
-use Rattle.sim_base.specs.declared.{place.Point.Point, state.Motion.Motion, state.Motion.TheVariants.Going, state.Motion.TheVariants.Still, state.Row.Row}
-use Rattle.sim_motion.specs.declared.chase.Chase.{Chase, TheVariants.Go, TheVariants.Keep, TheVariants.Stay}
 use Rattle.sim_base.specs.Ways as ways
+use Rattle.sim_base.specs.declared.{place.Point.Point, setup.Setup.Setup, state.Motion.Motion, state.Motion.TheVariants.Going, state.Motion.TheVariants.Still}
+use Rattle.sim_base.specs.{Limits.IsInside, Turn.along, Turn.along_found, Turn.walked, declared.state.Row.Row}
+use Rattle.sim_motion.specs.declared.chase.Chase.{Chase, TheVariants.Go, TheVariants.Keep, TheVariants.Stay}
+use Rattle.std.specs.Prelude.{Bool, List, None, Option, Some, [], false, true, ℕ, ◌≡◌, ◌⊎◌}
+use Rattle.{sim_motion.specs.declared.course.Course.Course, sim_motion.specs.declared.moves.Moved.Moved, sim_system.specs.declared.Way.Way}
 
 -- the way that an answer stands for
 abbrev pub way_in : Way → ways.Way

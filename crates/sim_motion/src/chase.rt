@@ -1,8 +1,8 @@
 //! What a row that can move does by its target.
 
-ghost use Rattle.{sim_base.specs.Limits.IsSetup, sim_motion.specs.Moves.chased, sim_motion.specs.Moves.LeadsInside};
 ghost use Rattle.std.specs.Prelude.{◌≡◌};
-ghost use Rattle.sim_base.specs.{Move.chasing, Rows.arms_of as arms_by, Rows.row_of, Rows.target_of as target_by, Validity.IsKnownRow, Validity.IsLooselyValid};
+ghost use Rattle.sim_base.specs.{Limits.IsKnownRow, Limits.IsLooselyValid, Limits.IsSetup, Rows.arms_of as arms_by, Rows.row_of, Rows.target_of as target_by};
+ghost use Rattle.{sim_base.specs.Turn.chasing, sim_motion.specs.Moves.LeadsInside, sim_motion.specs.Moves.chased};
 
 use sim_base::{Motion, Point, Row, Setup, State};
 use sim_plans::{RowIndex, arms_of, is_near, same_point, target_of};

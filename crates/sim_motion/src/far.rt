@@ -1,8 +1,8 @@
 //! How far apart two points are. The root is guessed first, since it is most of what a step along a way costs; a guess is
 //! taken only where it is the root, so that any guess is right.
 
-ghost use Rattle.std.specs.Prelude.{◌≡◌, IsTrue};
-ghost use Rattle.sim_base.specs.{Numbers.IsRoot, Numbers.root as root_of, Places.IsPlaced, Places.square as square_of};
+ghost use Rattle.std.specs.Prelude.{IsTrue, ◌≡◌};
+ghost use Rattle.sim_base.specs.Places.{IsPlaced, IsRoot, root as root_of, square as square_of};
 
 use sim_base::{Point, root, square};
 

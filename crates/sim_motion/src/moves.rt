@@ -1,18 +1,17 @@
 //! Where a row comes to, and how it goes on.
 
-ghost use Rattle.std.specs.Prelude.{◌≡◌, true, [], IfOk, IsOk, IsTrue, Some};
-ghost use Rattle.sim_base.specs.{Filters.field_of, Rows.arms_of as arms_by, Rows.row_of, Rows.size_of, Rows.target_of as target_by, WayOf.way_of};
-ghost use Rattle.sim_base.specs.{Move.after_walk as after_walk_by, Move.chasing, Move.moved_by, Move.walked, Validity.IsKnownRow};
-ghost use Rattle.sim_base.specs.{Places.is_inside, Places.IsPlaced, declared.state.Motion.TheVariants.Still};
-ghost use Rattle.sim_motion.specs.Moves.{along_course, along_way, going, MakesNoWay, NeedsNoMemory, row_moved, way_in};
-ghost use Rattle.sim_plans.specs.SceneWords.{Stands};
+ghost use Rattle.std.specs.Prelude.{[], IfOk, IsOk, IsTrue, Some, true, ◌≡◌};
+ghost use Rattle.sim_base.specs.{Commands.field_of, Limits.IsKnownRow, Places.IsPlaced, Places.is_inside, Rows.arms_of as arms_by, Rows.row_of, Rows.size_of};
+ghost use Rattle.sim_base.specs.{Rows.target_of as target_by, Turn.after_walk as after_walk_by, Turn.chasing, Turn.moved_by, Turn.walked, Ways.way_of};
+ghost use Rattle.sim_motion.specs.Moves.{along_course, along_way, going, MakesNoWay, NeedsNoMemory, row_moved};
+ghost use Rattle.{sim_base.specs.declared.state.Motion.TheVariants.Still, sim_plans.specs.SceneWords.Stands};
 
 use crate::chase::{Chase, chase_of};
 use crate::course::Course;
 use crate::walk::walk;
 use sim_base::{Items, Motion, OutOfMemory, Point, Row};
 use sim_plans::{RowIndex, Scene};
-use sim_system::{Answer, Ask, System, Way};
+use sim_system::{Answer, Ask, System};
 use std::alloc::Global;
 
 /// Where a row has come to, and how it goes on, if not as it went.
@@ -82,7 +81,14 @@ impl Walker<'_> {
         ensures { IfOk result (λ new. row_moved self.now.row.now new ≡ along_way self.now.row.now self.now.budget goal.now
             (way_of (field_of scene.now.setup.now scene.now.state.now) self.now.row.now.at goal.now)) }
     {
-        let found = way(scene, &self.row.at, goal)?;
+        let asked = Ask::Way {
+            start: self.row.at,
+            goal: *goal,
+        };
+        let found = match scene.ask(&asked)? {
+            Answer::Found { way } => way,
+            _ => unreachable!(),
+        };
         let way = found.points.as_slice();
         if way.is_empty() {
             return Ok(self.stay());
@@ -118,23 +124,6 @@ impl Walker<'_> {
             at,
             motion: Some(motion),
         })
-    }
-}
-
-// The way from a point of the ground to another.
-fn way(scene: &Scene<'_>, start: &Point, goal: &Point) -> Result<Way, OutOfMemory>
-    requires stands { Stands scene.now ⟦<dyn System as System>⟧ }
-    requires start { IsTrue (is_inside (size_of scene.now.setup.now.land) start.now) }
-    requires goal { IsTrue (is_inside (size_of scene.now.setup.now.land) goal.now) }
-    ensures { IfOk result (λ way. way_in way ≡ way_of (field_of scene.now.setup.now scene.now.state.now) start.now goal.now) }
-{
-    let asked = Ask::Way {
-        start: *start,
-        goal: *goal,
-    };
-    match scene.ask(&asked)? {
-        Answer::Found { way } => Ok(way),
-        _ => unreachable!(),
     }
 }
 

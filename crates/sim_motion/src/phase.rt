@@ -1,9 +1,9 @@
 //! The changes of the phase in which rows move.
 
-ghost use Rattle.{sim_base.specs.Move.moved, sim_base.specs.Validity.IsKnownRow, sim_plans.specs.SceneWords.Stands, std.specs.Result.ForOk};
-ghost use Rattle.{sim_motion.specs.Moves.motion_or, sim_motion.specs.Moves.row_moved, sim_plans.specs.Plans.move_changes_of, sim_plans.specs.Plans.move_plan};
-ghost use Rattle.std.specs.Prelude.{◌≡◌, [], ◌++◌, IfOk, OnOk, IsSome, IsOk, Some, None};
-ghost use Rattle.sim_plans.specs.{PlanLaws.IsPlanOf, RowPlans.goes_on as goes_on_by, RowPlans.motion_changes as motion_changes_by, RowPlans.step_changes};
+ghost use Rattle.std.specs.Prelude.{[], IfOk, IsOk, IsSome, None, OnOk, Some, ◌++◌, ◌≡◌};
+ghost use Rattle.std.specs.Result.{ForOk};
+ghost use Rattle.sim_plans.specs.{Plans.goes_on as goes_on_by, Plans.move_changes_of, Plans.move_plan, Plans.step_changes, SceneWords.Stands};
+ghost use Rattle.{sim_base.specs.Limits.IsKnownRow, sim_base.specs.Turn.moved, sim_motion.specs.Moves.row_moved, sim_plans.specs.Plans.IsPlanOf};
 
 use crate::moves::{Moved, Walker};
 use sim_base::{Change, Changes, Items, Motion, OutOfMemory, Row};
@@ -67,15 +67,6 @@ fn push_step(changes: &mut Changes, row: &Row, new: Moved) -> Result<(), OutOfMe
     if !same_point(&row.at, &at) {
         changes.push(Change::Move { id: row.id, at })?;
     }
-    push_motion(changes, row, motion)
-}
-
-// The row's motion becomes another one, if it is one.
-fn push_motion(changes: &mut Changes, row: &Row, motion: Option<Motion>) -> Result<(), OutOfMemory>
-    requires { IsSome row.now.motion }
-    ensures value { OnOk result (changes.new ≡ changes.old ++ motion_changes_by row.now.id row.now.motion (motion_or motion row.now.motion)) }
-    ensures light { motion_changes_by row.now.id row.now.motion (motion_or motion row.now.motion) ≡ [] → IsOk result }
-{
     match motion {
         Some(motion) if !goes_on(&row.motion, &motion) => {
             changes.push(Change::Motion { id: row.id, motion })

@@ -1,7 +1,7 @@
 //! How far a budget leads along waypoints.
 
-ghost use Rattle.{sim_base.specs.Move.toward as toward_by, sim_base.specs.Move.walked, sim_base.specs.Places.IsPlaced, sim_plans.specs.Sizes.IsCoordinate};
-ghost use Rattle.std.specs.Prelude.{◌≡◌, ◌*◌, ◌/◌, ◌<◌, ◌≤◌, pos, ◌+ℤ◌, ◌-ℤ◌, ◌*ℤ◌, int_div, All};
+ghost use Rattle.std.specs.Prelude.{All, int_div, pos, ◌*ℤ◌, ◌*◌, ◌+ℤ◌, ◌-ℤ◌, ◌/◌, ◌<◌, ◌≡◌, ◌≤◌};
+ghost use Rattle.{sim_base.specs.Places.IsPlaced, sim_base.specs.Turn.walked, sim_plans.specs.Sizes.IsCoordinate};
 
 use crate::far::distance;
 use sim_base::{Fixed, Point};
@@ -20,26 +20,17 @@ pub fn walk<'w>(from: &Point, budget: u32, way: &'w [Point]) -> (Point, &'w [Poi
     while let [next, more @ ..] = rest {
         let far = distance(&at, next);
         if far > budget {
-            return (toward(&at, next, budget, far), rest);
+            let stop = Point {
+                x: part(at.x, next.x, budget, far),
+                z: part(at.z, next.z, budget, far),
+            };
+            return (stop, rest);
         }
         at = *next;
         budget -= far;
         rest = more;
     }
     (at, rest)
-}
-
-// A point on the way to another, as far as the budget goes.
-fn toward(p: &Point, q: &Point, budget: u32, distance: u32) -> Point
-    requires p { IsPlaced p.now }
-    requires q { IsPlaced q.now }
-    requires far { budget < distance }
-    ensures { result ≡ toward_by p.now q.now budget distance }
-{
-    Point {
-        x: part(p.x, q.x, budget, distance),
-        z: part(p.z, q.z, budget, distance),
-    }
 }
 
 // A number and its share of the difference to another, truncated towards zero.

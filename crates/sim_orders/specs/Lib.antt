@@ -1,4 +1,1 @@
-pub mod Helps
 pub mod Orders
-pub mod Light
-pub mod OneProof

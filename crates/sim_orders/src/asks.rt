@@ -1,10 +1,9 @@
 //! The help of a command, made by asking a scene. It is asked for the count always, for a free rectangle where the command
 //! places a known template that is an obstruction at a point inside, and for a spot where a building that is alive trains.
 
-ghost use Rattle.std.specs.Prelude.{◌≡◌, IfOk, IsOk, slice_get, None, option_and_then};
-ghost use Rattle.sim_base.specs.{Commands.is_placeable as is_placeable_by, Filters.spot, Rows.row_of, declared.state.Row.Row as AnyRow};
-ghost use Rattle.sim_orders.specs.{Helps.IsHelp, Light.NeedsNoSpot};
-ghost use Rattle.sim_plans.specs.SceneWords.{Stands};
+ghost use Rattle.std.specs.Prelude.{IfOk, IsOk, None, option_and_then, slice_get, ◌≡◌};
+ghost use Rattle.sim_base.specs.{Commands.is_placeable as is_placeable_by, Commands.spot, Rows.row_of, declared.state.Row.Row as AnyRow};
+ghost use Rattle.{sim_orders.specs.Orders.IsHelp, sim_orders.specs.Orders.NeedsNoSpot, sim_plans.specs.SceneWords.Stands};
 
 use crate::help::Help;
 use sim_base::{Cell, Command, OutOfMemory, PlayerCommand, Point, rect_of};

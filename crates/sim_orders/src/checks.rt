@@ -1,8 +1,8 @@
 //! The conditions of commands: who may be attacked, what is trained, and whether there is room.
 
-ghost use Rattle.std.specs.Prelude.{◌≡◌, ◌<◌, ◌&&◌, length, nat_lt, slice_get};
-ghost use Rattle.sim_base.specs.{Commands.is_enemy as is_enemy_by, Commands.lists as lists_by, Commands.trains as trains_by, Rows.row_of, Rows.template_of};
-ghost use Rattle.sim_base.specs.{Limits.IsFrom, Limits.IsSetup, Limits.row_limit, Validity.IsLooselyValid};
+ghost use Rattle.std.specs.Prelude.{length, nat_lt, slice_get, ◌&&◌, ◌<◌, ◌≡◌};
+ghost use Rattle.sim_base.specs.{Commands.is_enemy as is_enemy_by, Commands.lists as lists_by, Commands.trains as trains_by, Limits.IsFrom};
+ghost use Rattle.sim_base.specs.{Limits.IsLooselyValid, Limits.IsSetup, Limits.row_limit, Rows.row_of, Rows.template_of};
 
 use sim_base::{MAX_ROWS, Row, Setup, State, Template};
 use sim_plans::{find_row, is_enemy_of, template_at};

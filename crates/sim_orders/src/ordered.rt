@@ -1,10 +1,10 @@
 //! The changes of the rows that a command orders, row by row.
 
-ghost use Rattle.{sim_base.specs.Commands.is_ordered, sim_base.specs.Rows.id_of, sim_orders.specs.Light.OwnsNone};
 ghost use Rattle.std.specs.List.{flat_map};
-ghost use Rattle.std.specs.Prelude.{◌≡◌, [], ◌∷◌, ◌++◌, map, IfOk, if◌then◌else◌, OnOk, IsOk, ◌==◌, None, filter};
-ghost use Rattle.sim_base.specs.declared.{change.Change.TheVariants.Owner, change.Change.TheVariants.Remove, state.Row.Row as AnyRow};
-ghost use Rattle.sim_plans.specs.CommandPlans.{sent_changes, set_on_changes, stop_changes};
+ghost use Rattle.std.specs.Prelude.{[], filter, IfOk, if◌then◌else◌, IsOk, map, None, OnOk, ◌++◌, ◌==◌, ◌∷◌, ◌≡◌};
+ghost use Rattle.sim_base.specs.{Commands.is_ordered, Rows.id_of, declared.change.Change.TheVariants.Owner, declared.change.Change.TheVariants.Remove};
+ghost use Rattle.sim_plans.specs.Plans.{set_on_changes, stop_changes};
+ghost use Rattle.{sim_base.specs.declared.state.Row.Row as AnyRow, sim_orders.specs.Orders.OwnsNone, sim_plans.specs.Plans.sent_changes};
 
 use crate::named::Named;
 use sim_base::{Change, Changes, Items, Motion, OutOfMemory, Point, Row};

@@ -1,8 +1,8 @@
 //! The table of the stored planners, and the help that it makes for them.
 
-ghost use Rattle.{sim_base.specs.Limits.IsFrom, sim_plans.specs.SceneWords.Stands};
-ghost use Rattle.std.specs.Prelude.{◌≡◌, ℕ, ◌<◌, ◌≤◌, ◌==◌, count_by};
-ghost use Rattle.sim_orders.specs.{OneProof.fulfils_prop, Orders.Fulfils, Orders.IsGiven, Orders.Obeys};
+ghost use Rattle.std.specs.Prelude.{count_by, ℕ, ◌<◌, ◌==◌, ◌≡◌, ◌≤◌};
+ghost use Rattle.{sim_base.specs.Limits.IsFrom, sim_orders.specs.Orders.Fulfils, sim_orders.specs.Orders.IsGiven, sim_orders.specs.Orders.Obeys};
+ghost use Rattle.{sim_orders.specs.Orders.fulfils_prop, sim_plans.specs.SceneWords.Stands};
 
 use crate::asks::help_of;
 use crate::{Task, kind_of};

@@ -1,10 +1,10 @@
 //! The task of a planner, and how the usual planner does it: by a method for each kind of command. Whether there is anything to
 //! change is asked before memory is taken.
 
-ghost use Rattle.std.specs.Prelude.{◌≡◌, [], ◌∷◌, IfOk, IsOk};
+ghost use Rattle.std.specs.Prelude.{[], IfOk, IsOk, ◌∷◌, ◌≡◌};
 ghost use Rattle.sim_base.specs.declared.change.Change.TheVariants.{Create};
 ghost use Rattle.sim_base.specs.declared.command.Command.TheVariants.{Attack, Delete, Place, Resign, Stop, Train, Walk};
-ghost use Rattle.sim_orders.specs.{Light.NeedsNoMemory, Orders.Fulfils, Orders.IsGiven, Orders.kind_of, Orders.plan_for};
+ghost use Rattle.sim_orders.specs.Orders.{Fulfils, IsGiven, kind_of, NeedsNoMemory, plan_for};
 
 use crate::checks::{has_room, is_enemy, trains};
 use crate::help::Help;

@@ -1,10 +1,9 @@
 -- What is packed is read back.
-use Rattle.{sim_base.specs.Bytes.u32_bytes, sim_packed.specs.Files.cut_at, sim_packed.specs.Files.file_at, sim_packed.specs.Files.files_from}
-use Rattle.sim_packed.specs.{Files.files_in, Files.piece_at, Packing.files_bytes, Packing.IsShortFile, Packing.IsWord, Packing.piece_bytes, Packing.words_bytes}
-use Rattle.{sim_packed.specs.Words.spelled_words, sim_packed.specs.Words.words_in, sim_store.specs.Files.File, std.proofs.Common.[], std.proofs.Common.◌++◌}
-use Rattle.std.proofs.Common.{◌<◌, ◌^◌, ◌∙◌, ◌∷◌, ◌≡◌, ◌≢◌, ◌≤◌, All, ap, append-nil, append_assoc, arith, false, length, List, ltb, refl, Some, suc, zero, ℕ}
-use Rattle.std.proofs.lemmas.{Bool.le-ltb, Bool.ne_eqb, List.drop_at, List.length-append, List.take_at, List.Elements.All-head, List.Elements.All-tail}
-use Rattle.std.{proofs.lemmas.Nat.from_le_bytes-to_le_bytes_4, specs.Prelude.◌==◌, specs.Prelude.reverse}
+use Rattle.sim_packed.specs.Files.{cut_at, file_at, files_bytes, files_from, files_in, IsShortFile, IsWord, piece_at, piece_bytes, spelled_words, words_bytes}
+use Rattle.std.proofs.Common.{[], All, ap, append-nil, append_assoc, arith, false, length, List, ltb, refl, Some, suc, zero, ℕ, ◌++◌, ◌<◌, ◌^◌, ◌∙◌, ◌∷◌, ◌≡◌}
+use Rattle.std.proofs.lemmas.{Bool.le-ltb, Bool.ne_eqb, List.Elements.All-head, List.Elements.All-tail, List.drop_at, List.length-append, List.take_at}
+use Rattle.std.{proofs.lemmas.Nat.from_le_bytes-to_le_bytes_4, specs.Prelude.reverse, specs.Prelude.◌==◌}
+use Rattle.{sim_base.specs.Spelling.u32_bytes, sim_packed.specs.Files.words_in, sim_store.specs.Held.File, std.proofs.Common.◌≢◌, std.proofs.Common.◌≤◌}
 use mathlib.Core.List.{reverse_aux}
 
 -- ---- words

@@ -1,7 +1,7 @@
 -- How files are taken from bytes one by one, and put on a shelf.
 use Rattle.sim_packed.specs.Files.{file_at, files_from, files_in, Holds, HoldSame}
-use Rattle.sim_store.specs.{Files.File, Files.file_in, Files.FileSet, MemShelf.counts_on, MemShelf.files_on, declared.mem_shelf.MemShelf.MemShelf}
-use Rattle.std.proofs.Common.{[], if◌then◌else◌, ◌<◌, ◌∙◌, ◌∷◌, ◌≡◌, ◌≢◌, ◌≤◌, ap, arith, Bool, false, length, List, None, refl, Some, suc, sym, true, zero, ℕ}
+use Rattle.sim_store.specs.{Held.File, Held.FileSet, Held.file_in, MemShelf.counts_on, MemShelf.files_on, declared.mem_shelf.MemShelf.MemShelf}
+use Rattle.std.proofs.Common.{[], ap, arith, Bool, false, if◌then◌else◌, length, List, None, refl, Some, suc, sym, true, zero, ℕ, ◌<◌, ◌∙◌, ◌∷◌, ◌≡◌, ◌≢◌, ◌≤◌}
 use Rattle.std.{proofs.lemmas.Bool.false≢true, proofs.lemmas.Slice.Eq.bytes_eq-Decides, specs.Prelude.is_some, specs.Str.bytes_eq}
 
 -- the shelf holds the files so far, and with those that are left they are what all bytes spell

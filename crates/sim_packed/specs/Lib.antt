@@ -1,4 +1,1 @@
-pub mod Words
 pub mod Files
-pub mod Packing
-pub mod Run

@@ -1,9 +1,9 @@
 //! A run over bytes.
 
-ghost use Rattle.{sim_edge.specs.Run.Ran, sim_packed.specs.Run.IsRun, sim_packed.specs.Run.IsRunOn, sim_packed.specs.Run.IsUnrun, sim_packed.specs.Run.under};
-ghost use Rattle.{sim_packed.specs.declared.running.Unrun.TheVariants.OutOfMemory as no_memory, sim_store.specs.Counts.no_counts};
-ghost use Rattle.{sim_store.specs.MemShelf.counts_on, sim_store.specs.MemShelf.files_on, sim_top.specs.Answers.scene, sim_top.specs.Words.words_of};
-ghost use Rattle.std.specs.Prelude.{◌≡◌, IfErr, IfOk, option_map};
+ghost use Rattle.std.specs.Prelude.{IfErr, IfOk, option_map, ◌≡◌};
+ghost use Rattle.{sim_edge.specs.Run.Ran, sim_packed.specs.Files.IsRun, sim_packed.specs.Files.under, sim_top.specs.Words.words_of};
+ghost use Rattle.{sim_packed.specs.Files.IsRunOn, sim_packed.specs.Files.IsUnrun, sim_store.specs.MemShelf.files_on, sim_store.specs.Shelf.no_counts};
+ghost use Rattle.{sim_packed.specs.declared.running.Unrun.TheVariants.OutOfMemory as no_memory, sim_store.specs.MemShelf.counts_on, sim_top.specs.Reads.scene};
 
 use crate::files::shelf_from;
 use crate::storing::out_of;

@@ -1,7 +1,7 @@
 //! The words that bytes spell: each is ended by a byte 0.
 
-ghost use Rattle.std.specs.Prelude.{◌≡◌, [], map, IfOk, option_map, string_bytes};
-ghost use Rattle.sim_packed.specs.Words.{spelled_words, text_in, words_in};
+ghost use Rattle.std.specs.Prelude.{[], IfOk, map, option_map, string_bytes, ◌≡◌};
+ghost use Rattle.sim_packed.specs.Files.{spelled_words, text_in, words_in};
 
 use sim_base::OutOfMemory;
 use std::alloc::Global;

@@ -1,10 +1,9 @@
 -- What is remembered stays right when more cells are added behind those of all ways, and the new way is right too.
-use Rattle.{sim_path.specs.Remembering.AreFirst, sim_path.specs.Remembering.IsRight, sim_path.specs.declared.remembered.KeptWay.KeptWay}
-use Rattle.std.proofs.lemmas.List.{drop-append-le, take-append-le, Elements.All-set}
-use Rattle.std.proofs.{Common.drop, Common.IfSome, Common.length-drop, Common.replicate, Math.Logic.∥∥₁_elim, Math.Logic.∥∥₁_prop, Math.Seq.drop-append_seam}
-use Rattle.sim_path.proofs.Common.{◌≡◌, ℕ, ◌-◌, ◌≤◌, List, ◌++◌, length, take, set, Some, None, All, Option, ap, arith, subst, sym, ◌∙◌}
-use Rattle.sim_path.proofs.Common.{◌<◌, All-get_or, All-replicate, All-weaker, Bool, cond, false, get_or, true, Cell, field_of_grid, length-append, take_all}
-use Rattle.sim_grid.specs.Grids.{OpenCells}
+use Rattle.sim_path.proofs.Common.{All, All-get_or, All-replicate, All-weaker, ap, arith, Bool, Cell, cond, false, field_of_grid, get_or, length, length-append}
+use Rattle.sim_path.proofs.Common.{List, None, Option, set, Some, subst, sym, take, take_all, true, ℕ, ◌++◌, ◌-◌, ◌<◌, ◌∙◌, ◌≡◌, ◌≤◌}
+use Rattle.std.proofs.{Common.IfSome, Common.drop, Common.length-drop, Common.replicate, Math.Logic.∥∥₁_elim, Math.Logic.∥∥₁_prop, Math.Seq.drop-append_seam}
+use Rattle.{sim_grid.specs.Grids.OpenCells, sim_path.specs.Questions.AreFirst, sim_path.specs.Questions.IsRight, std.proofs.lemmas.List.take-append-le}
+use Rattle.{sim_path.specs.declared.remembered.KeptWay.KeptWay, std.proofs.lemmas.List.Elements.All-set, std.proofs.lemmas.List.drop-append-le}
 
 part_stays : (cells more : List Cell) (begin end : ℕ) → begin ≤ end → end ≤ length cells
     → take (end - begin) (drop begin (cells ++ more)) ≡ take (end - begin) (drop begin cells)

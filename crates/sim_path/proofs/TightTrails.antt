@@ -1,10 +1,197 @@
 -- Why the cells that are found backwards by tight steps are the trail of the definition.
-use Rattle.{sim_laws.proofs.Keys.first_of_not_before, sim_path.proofs.BestOf.later, sim_path.proofs.BestOf.same_first, sim_path.proofs.Ends.last_step}
-use Rattle.sim_path.proofs.Common.{IsTightTrail, IsTrail, LeadsTo, length-append, move-of, neighbour, neighbour-back, neighbour-below_eight, neighbour-on}
-use Rattle.sim_path.proofs.Common.{append_assoc, AreDead, AreEnds, arith, back_step, cases_lt, Cell, end_key, Field, floor_cost, free-of_walk, go, inl, inr}
-use Rattle.sim_path.proofs.Common.{is_before, is_free, IsBest, IsCost, IsEnd, IsFirstTight, IsFloor, IsOnGround, IsPredecessor, IsStep, IsTight, IsTightStep}
-use Rattle.sim_path.proofs.Common.{octile, Reached, same_from_push, same_or_not, stay, step_back, step_cost, subst, sym, true≢false, Walk, walk-on, ⊎_elim, ◌∙◌}
-use Rattle.sim_path.proofs.Common.{◌≡◌, ℕ, ◌<◌, ◌≤◌, Bool, true, false, ◌≢◌, ◌⊎◌, List, [], ◌∷◌, ◌++◌, length, Some, None, Contains, refl, ap, append-nil}
+use Rattle.sim_path.proofs.Common.{Contains, Contains-append_left, Contains-push, Contains-push_cases, end_key, eq-eqb, false, Field, floor_cost, free-of_walk}
+use Rattle.sim_path.proofs.Common.{IsNoneOf, IsOnGround, IsPredecessor, IsReached, IsSearched, IsStep, IsStrictWeakOrder, IsTight, IsTightStep, IsTightTrail}
+use Rattle.sim_path.proofs.Common.{IsTrail, IsWayEnd, key_to, LeadBack, LeadsTo, least_step, length, length-append, lesser_of, List, ltb, ltb-true, move-of}
+use Rattle.sim_path.proofs.Common.{[], ap, append-nil, append_assoc, AreCosts, AreDead, AreEnds, arith, back_step, Bool, cases_Bool, cases_lt, Cell, cond}
+use Rattle.sim_path.proofs.Common.{go, HasGoneTo, HasStopped, inl, inr, is_before, is_free, IsBest, IsBestOf, IsCost, IsEnd, IsEstimate, IsFirstTight, IsFloor}
+use Rattle.sim_path.proofs.Common.{nat_list_cmp_total, ne_eqb, neighbour, neighbour-back, neighbour-below_eight, neighbour-on, None, not, octile, octile-none}
+use Rattle.sim_path.proofs.Common.{octile-self, Option, ranks_by, Reached, refl, same_from_push, same_or_not, Some, stay, step_back, step_cost, subst, sym}
+use Rattle.sim_path.proofs.Common.{true, true≢false, Walk, walk-on, ℕ, ⊎_elim, ◌*◌, ◌++◌, ◌+◌, ◌-◌, ◌<◌, ◌∙◌, ◌∷◌, ◌≡◌, ◌≢◌, ◌≤◌, ◌⊎◌}
+use Rattle.sim_path.specs.{Questions.AreLive, Questions.IsSlope, Questions.slope_of, SlopeLaws.slope-floor, declared.slope.Slope.Slope}
+use Rattle.sim_search.specs.Rows.{number_in}
+use Rattle.{sim_laws.proofs.Keys.first_of_not_before, sim_path.proofs.Ends.back-of_all, sim_path.proofs.Ends.last_step, sim_search.proofs.Moves.direction-of}
+
+-- The best of a list of cells, and why it is the end of the way where the cells are the ends of the search.
+
+not_lower : (a b : ℕ) → b ≤ a → ltb a b ≡ false
+not_lower a b le = by (ltb a b) refl
+  where
+    by : (t : Bool) → ltb a b ≡ t → ltb a b ≡ false
+    by true e = absurd (omega (arith, ltb-true a b e))
+    by false e = e
+
+-- a key whose first number is greater does not precede
+pub later : (a b : ℕ) (x y : List ℕ) → b < a → is_before (a ∷ x) (b ∷ y) ≡ false
+later a b x y lt = rw (not_lower a b (omega arith), ne_eqb a b (λ (e : a ≡ b). omega arith)) refl
+
+-- keys with the same first number are compared by the rest
+pub same_first : (a b : ℕ) (x y : List ℕ) → a ≡ b → is_before (a ∷ x) (b ∷ y) ≡ is_before x y
+same_first a b x y e = rw (not_lower a b (omega arith), eq-eqb a b e) refl
+
+module _ (cost : Cell → Option ℕ) (goal : Cell) where
+  abbrev before : Reached → Reached → Bool
+  before r s = is_before (key_to goal r) (key_to goal s)
+
+  order : IsStrictWeakOrder before
+  order = ranks_by nat_list_cmp_total (key_to goal)
+
+  itself : (r : Reached) → before r r ≡ false
+  itself r = by (cases_Bool (before r r))
+    where
+      by : (before r r ≡ true) ⊎ (before r r ≡ false) → before r r ≡ false
+      by (inl e) = order.one_way r r e
+      by (inr e) = e
+
+  pub best_of-none : IsBestOf cost goal [] None
+  best_of-none c d (k, h, is) e = omega (arith, h)
+
+  pub best_of-past : (cells : List Cell) (x : Cell) (best : Option Reached) → cost x ≡ None → IsBestOf cost goal cells best
+      → IsBestOf cost goal (cells ++ x ∷ []) best
+  best_of-past cells x None none b =
+      λ c d h e.
+      ⊎_elim
+      (λ (m : Contains cells c). b c d m e)
+      (λ (f : x ≡ c). let both : None ≡ Some d = sym none ∙ ap cost f ∙ e in cc)
+      (Contains-push_cases cells x c h)
+  best_of-past cells x (Some best) none (b, m) = (
+    record {
+      reached = b.reached;
+      least = λ c d h e.
+          ⊎_elim
+          (λ (n : Contains cells c). b.least c d n e)
+          (λ (f : x ≡ c). let both : None ≡ Some d = sym none ∙ ap cost f ∙ e in let never : ⊥ = cc in absurd never)
+          (Contains-push_cases cells x c h);
+    },
+    Contains-append_left cells (x ∷ []) best.cell m,
+  )
+
+  abbrev reached : Cell → ℕ → Reached
+  reached c n = record { cell = c; cost = n }
+
+  own : (x c : Cell) (d n : ℕ) → cost x ≡ Some d → x ≡ c → cost c ≡ Some n → reached c n ≡ reached x d
+  own x c d n is f e =
+      let both : Some d ≡ Some n = sym is ∙ ap cost f ∙ e in
+      let equal : d ≡ n = cc in
+      cc
+
+  pub best_of-more : (cells : List Cell) (x : Cell) (d : ℕ) (best : Option Reached) → cost x ≡ Some d → IsBestOf cost goal cells best →
+      IsBestOf cost goal (cells ++ x ∷ []) (Some (lesser_of (key_to goal) best (record { cell = x; cost = d })))
+  best_of-more cells x d None is b = (
+    record {
+      reached = is;
+      least = λ c n h e.
+          ⊎_elim
+          (λ (m : Contains cells c). absurd (b c n m e))
+          (λ (f : x ≡ c). ap (λ (r : Reached). before r (record { cell = x; cost = d })) (own x c d n is f e) ∙ itself (record { cell = x; cost = d }))
+          (Contains-push_cases cells x c h);
+    },
+    Contains-push cells x,
+  )
+  best_of-more cells x d (Some best) is (b, m) = by (before this best) refl
+    where
+      this : Reached
+      this = record { cell = x; cost = d }
+
+      by : (t : Bool) → before this best ≡ t → IsBestOf cost goal (cells ++ x ∷ []) (Some (cond t this best))
+      by true lower = (
+        record {
+          reached = is;
+          least = λ c n h e.
+              ⊎_elim
+              (λ (k : Contains cells c). order.chain (record { cell = c; cost = n }) best this (b.least c n k e) (order.one_way this best lower))
+              (λ (f : x ≡ c). ap (λ (r : Reached). before r this) (own x c d n is f e) ∙ itself this)
+              (Contains-push_cases cells x c h);
+        },
+        Contains-push cells x,
+      )
+      by false higher = (
+        record {
+          reached = b.reached;
+          least = λ c n h e.
+              ⊎_elim
+              (λ (k : Contains cells c). b.least c n k e)
+              (λ (f : x ≡ c). ap (λ (r : Reached). before r best) (own x c d n is f e) ∙ higher)
+              (Contains-push_cases cells x c h);
+        },
+        Contains-append_left cells (x ∷ []) best.cell m,
+      )
+
+-- ---- the best of the ends is the end of the way
+
+module _ (field : Field) (start goal : Cell) (near : ℕ) (ends : List Cell) (cost : Cell → Option ℕ) (best : Reached) (a : AreEnds field start goal near ends)
+    (b : IsBest cost goal (Contains ends) best) (among : Contains ends best.cell) where
+  best_near : octile best.cell goal ≡ near
+  best_near = a.as_near best.cell among
+
+  -- a reached cell that does not precede where it is as near does not precede
+  compared : (c : Cell) (n : ℕ) → IsCost field start c n → (octile c goal ≡ near → is_before (end_key goal c n) (end_key goal best.cell best.cost) ≡ false)
+      → is_before (end_key goal c n) (end_key goal best.cell best.cost) ≡ false
+  compared c n h near_one = by (cases_lt near (octile c goal))
+    where
+      by : (near < octile c goal) ⊎ (octile c goal ≤ near) → is_before (end_key goal c n) (end_key goal best.cell best.cost) ≡ false
+      by (inl lt) = later (octile c goal) (octile best.cell goal) (n ∷ c.z ∷ c.x ∷ []) (best.cost ∷ best.cell.z ∷ best.cell.x ∷ []) (omega (arith, best_near))
+      by (inr le) = near_one (omega (arith, a.away c n h.walk))
+
+  pub end-of_all : AreCosts field start cost → IsEnd field start goal best.cell best.cost
+  end-of_all all =
+      record {
+        reached = all.least best.cell best.cost b.reached;
+        least = λ c n h. compared c n h (λ e. b.least c n (a.all c n h.walk e) (all.all c n h));
+      }
+
+  module _ (estimate : Cell → ℕ) (falls : IsEstimate (IsStep field start) estimate) (none : (c : Cell) → octile c goal ≡ near → estimate c ≡ 0)
+      (s : HasStopped field start estimate ends cost) where
+    best_low : best.cost ≤ s.bound
+    best_low =
+        let come = s.come in
+        let end_near : octile come.end goal ≡ octile best.cell goal = a.as_near come.end come.among ∙ sym best_near in
+        let h = b.least come.end come.value come.among come.reached in
+        let rest = same_first (octile come.end goal) (octile best.cell goal) (come.value ∷ come.end.z ∷ come.end.x ∷ [])
+        (best.cost ∷ best.cell.z ∷ best.cell.x ∷ []) end_near in
+        omega (arith, come.below, first_of_not_before come.value best.cost (come.end.z ∷ come.end.x ∷ []) (best.cell.z ∷ best.cell.x ∷ []) (sym rest ∙ h))
+
+    pub back-of_stopped : LeadBack field start cost best
+    back-of_stopped =
+        record {
+          estimate = estimate;
+          falls = falls;
+          bound = s.bound;
+          low = omega (arith, best_low, none best.cell best_near);
+          reached = b.reached;
+          up_to = s.up_to;
+        }
+
+    pub end-of_stopped : IsEnd field start goal best.cell best.cost
+    end-of_stopped =
+        record {
+          reached = s.up_to.least best.cell best.cost b.reached (omega (arith, best_low, none best.cell best_near));
+          least = λ c n h. compared c n h (λ e. by c n h e (cases_lt s.bound n));
+        }
+      where
+        by : (c : Cell) (n : ℕ) → IsCost field start c n → octile c goal ≡ near → (s.bound < n) ⊎ (n ≤ s.bound)
+            → is_before (end_key goal c n) (end_key goal best.cell best.cost) ≡ false
+        by c n h e (inl lt) =
+            same_first (octile c goal) (octile best.cell goal) (n ∷ c.z ∷ c.x ∷ []) (best.cost ∷ best.cell.z ∷ best.cell.x ∷ []) (e ∙ sym best_near)
+            ∙ later n best.cost (c.z ∷ c.x ∷ []) (best.cell.z ∷ best.cell.x ∷ []) (omega (arith, best_low))
+        by c n h e (inr le) = b.least c n (a.all c n h.walk e) (s.up_to.all c n h (omega (arith, none c e)))
+
+-- where none of the ends has a cost, all cells have their least costs
+pub all-by_none : (field : Field) (start : Cell) (estimate : Cell → ℕ) (ends : List Cell) (cost : Cell → Option ℕ) → IsNoneOf cost ends
+    → IsSearched field start estimate ends cost → AreCosts field start cost
+all-by_none field start estimate ends cost none (inl all) = all
+all-by_none field start estimate ends cost none (inr s) = absurd (none s.come.end s.come.value s.come.among s.come.reached)
+
+pub end-by_search : (field : Field) (start goal : Cell) (near : ℕ) (ends : List Cell) (cost : Cell → Option ℕ) (best : Reached)
+    → AreEnds field start goal near ends → IsBestOf cost goal ends (Some best) → HasGoneTo field start goal near ends cost → IsWayEnd field start goal cost best
+end-by_search field start goal near ends cost best a (b, among) gone = by gone.searched
+  where
+    by : IsSearched field start gone.estimate ends cost → IsWayEnd field start goal cost best
+    by (inl all) = record { is_end = end-of_all field start goal near ends cost best a b among all; back = back-of_all field start cost best all b.reached }
+    by (inr s) =
+        record {
+          is_end = end-of_stopped field start goal near ends cost best a b among gone.estimate gone.falls gone.none_left s;
+          back = back-of_stopped field start goal near ends cost best a b among gone.estimate gone.falls gone.none_left s;
+        }
 
 module _ (field : Field) (start : Cell) (floor : Cell → ℕ) where
   -- where p is tight, c is, and p is its predecessor
@@ -204,3 +391,58 @@ module _ (field : Field) (start : Cell) (floor : Cell → ℕ) (start_on : IsOnG
           → is_before (end_key goal c n) (end_key goal e (floor e)) ≡ false
       compared c n h (inl lt) = later (octile c goal) (octile e goal) (n ∷ c.z ∷ c.x ∷ []) (floor e ∷ e.z ∷ e.x ∷ []) (omega (arith, best_near))
       compared c n h (inr le) = tied c n h (omega (arith, best_near, a.away c n h.walk)) (cases_lt (floor c) n)
+
+-- No shortest way leads to a cell that is not live.
+
+falls-by : (whole a b n k : ℕ) → n + k ≤ whole - 2 * b → whole - 2 * a ≤ n → 2 * a ≤ k + 2 * b → 10 ≤ k → 2 * b + k ≡ 2 * a
+falls-by whole a b n k e f g h = omega arith
+
+some-step : (k which : ℕ) → k ≡ step_cost which → 10 ≤ k
+some-step k which e = omega (arith, e, least_step which)
+
+not-true : (b : Bool) → not b ≡ true → b ≡ true → ⊥
+not-true b e f = true≢false (sym e ∙ ap not f)
+
+module _ (field : Field) (start : Cell) (s : Slope) (start_on : IsOnGround field.size start) (is : IsSlope field start s) (live : Cell → Bool)
+    (are : AreLive field start (number_in s.distances.now) live) where
+  is_floor : IsFloor field start (slope_of s)
+  is_floor = slope-floor field start s is
+
+  live-walk : {c : Cell} {n : ℕ} → Walk (IsStep field start) start c n → n ≤ slope_of s c → live c ≡ true
+  live-walk stay le = are.begins
+  live-walk (go {a = a} {b = b} {n = n} {k = k} w step) le =
+      let number = number_in s.distances.now in
+      let d = direction-of field start a b k step in
+      let before = live-walk w (omega (arith, le, is_floor.rises a b k step)) in
+      let sum = falls-by s.whole (number a) (number b) n k le (walk-far field start (slope_of s) start_on is_floor w)
+      (is.distances.onwards start a b k is.is_open step) (some-step k d.which d.cost_is) in
+      are.onwards a before d.which b d.below_eight (record { leads = d.leads; sum = ap (λ (m : ℕ). 2 * number b + m) (sym d.cost_is) ∙ sum })
+
+  pub live-dead : AreDead field start (slope_of s) (λ (c : Cell). not (live c))
+  live-dead c h t = not-true (live c) h (live-walk t.walk (omega arith))
+
+-- a walk back begins at an end that may be entered
+pub live-begins : (field : Field) (start : Cell) (floor : Cell → ℕ) (end : Cell) (dead : Cell → Bool) → AreDead field start floor dead
+    → IsFree field start floor end → IsAt field start floor end [] dead end
+live-begins field start floor end dead are_dead free =
+    record { chain = begin; frees = no_more; free = free; are_dead = are_dead }
+
+pub alone : (goal c : Cell) → Contains (goal ∷ []) c → goal ≡ c
+alone goal c h = ⊎_elim (λ (m : Contains [] c). let (k, lt, e) = m in absurd (omega (arith, lt))) (λ (e : goal ≡ c). e) (Contains-push_cases [] goal c h)
+
+module _ (field : Field) (start goal : Cell) (floor : Cell → ℕ) (start_on : IsOnGround field.size start) (is_floor : IsFloor field start floor)
+    (tight : IsTight field start floor goal) where
+  ends : AreEnds field start goal 0 (goal ∷ [])
+  ends = record {
+    away = λ c n w. omega arith;
+    all = λ c n w e. subst (Contains (goal ∷ [])) (sym (octile-none c goal e)) (Contains-push [] goal);
+    as_near = λ c h. subst (λ (v : Cell). octile v goal ≡ 0) (alone goal c h) (octile-self goal);
+    reached = λ c h. subst (IsReached field start) (alone goal c h) (record { cost = floor goal; walk = tight.walk });
+    some = (goal, Contains-push [] goal);
+  }
+
+  -- a goal that is reached is the end
+  pub goal-end : IsEnd field start goal goal (floor goal)
+  goal-end =
+      let best = best_of-more (floor_cost floor) goal [] goal (floor goal) None refl (best_of-none (floor_cost floor) goal) in
+      tight-end field start floor start_on is_floor goal 0 (goal ∷ []) (record { cell = goal; cost = floor goal }) ends best.0 best.1 tight

@@ -1,8 +1,7 @@
 -- What is kept of a ground, and the ground that it is kept of.
-use Rattle.{sim_grid.specs.Grids.OpenCells, sim_grid.specs.Packed.is_set_at, sim_path.specs.declared.kept.KeptCells.KeptCells}
-use Rattle.std.{specs.List.range_with_len, specs.Prelude.◌≡◌, specs.Prelude.ℕ, specs.Prelude.◌*◌, specs.Prelude.Bool, specs.Prelude.List, specs.Prelude.map}
-use Rattle.sim_base.specs.Steps.{Field}
-use Rattle.sim_search.specs.{Distances.AreDistances, Distances.number_in, Distances.size_about, declared.distances.Distances.Distances}
+use Rattle.sim_search.specs.{Rows.AreDistances, Rows.number_in, Rows.size_about, declared.distances.Distances.Distances}
+use Rattle.std.specs.{List.range_with_len, Prelude.Bool, Prelude.List, Prelude.map, Prelude.ℕ, Prelude.◌*◌, Prelude.◌≡◌}
+use Rattle.{sim_base.specs.Places.Field, sim_grid.specs.Grids.OpenCells, sim_grid.specs.Packed.is_set_at, sim_path.specs.declared.kept.KeptCells.KeptCells}
 
 -- the first n cells that words tell of
 abbrev pub cells_of : ℕ → List ℕ → List Bool

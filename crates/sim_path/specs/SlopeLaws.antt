@@ -1,7 +1,7 @@
 -- No walk costs less than what distances to a goal leave for it, since they fall along a step by at most what it costs.
-use Rattle.{sim_base.specs.Steps.Field, sim_base.specs.declared.place.Cell.Cell, sim_path.specs.Floors.IsSlope, sim_path.specs.Floors.slope_of}
-use Rattle.{sim_path.specs.WalkFloors.IsFloor, sim_path.specs.declared.slope.Slope.Slope, sim_search.specs.Distances.number_in}
-use Rattle.std.proofs.Common.{◌*◌, ◌+◌, ◌-◌, ◌≡◌, ◌≤◌, arith, ℕ}
+use Rattle.std.proofs.Common.{ℕ, ◌*◌, ◌+◌, ◌-◌, ◌≡◌, ◌≤◌}
+use Rattle.{sim_base.specs.Places.Field, sim_base.specs.declared.place.Cell.Cell, sim_path.specs.Questions.IsFloor, sim_path.specs.Questions.IsSlope}
+use Rattle.{sim_path.specs.Questions.slope_of, sim_path.specs.declared.slope.Slope.Slope, sim_search.specs.Rows.number_in, std.proofs.Common.arith}
 
 left-rises : (whole a b k : ℕ) → 2 * a ≤ k + 2 * b → whole - 2 * b ≤ whole - 2 * a + k
 left-rises whole a b k h = omega arith

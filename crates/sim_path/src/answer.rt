@@ -1,12 +1,9 @@
 //! The way from a point to another, by its points.
 
-ghost use Rattle.{sim_grid.specs.Grids.field_of_grid, sim_search.specs.Floods.label_in};
-ghost use Rattle.std.specs.Prelude.{◌≡◌, ◌<◌, true, false, [], ◌∷◌, reverse, IfOk, if◌then◌else◌, OnOk, IsTrue, All};
-ghost use Rattle.sim_base.specs.{Places.cell_of as cell_at, Places.centre_of as centre_at, Places.is_inside, Places.IsPlaced, Places.same_cell, WayOf.way_of};
-ghost use Rattle.sim_base.specs.Ways.{IsWay, waypoints};
-ghost use Rattle.sim_path.specs.{Answers.way_in, WayEnds.HasGoneTo, WayEnds.IsWayEnd};
-ghost use Rattle.sim_path.specs.Questions.{field_in, HasItsEnds, IsBetween, IsKnown};
-ghost use Rattle.sim_search.specs.{Estimates.IsNarrow, Regions.AreLabels, Tables.cost_in, Tables.size_of};
+ghost use Rattle.std.specs.Prelude.{[], All, IfOk, reverse, true, ◌∷◌, ◌≡◌};
+ghost use Rattle.sim_base.specs.{Places.IsPlaced, Ways.IsWay, Ways.way_of, Ways.waypoints};
+ghost use Rattle.sim_path.specs.{Answers.way_in, Questions.IsAsked, Questions.IsBetween, Questions.IsKnown, Questions.field_in};
+ghost use Rattle.{sim_grid.specs.Grids.field_of_grid, sim_search.specs.Estimates.IsNarrow, sim_search.specs.Floods.AreLabels, sim_search.specs.Floods.label_in};
 
 use crate::atlas::Atlas;
 use crate::end::{best_of, end_of};
@@ -17,7 +14,6 @@ use crate::marks::Marks;
 use crate::milestone::milestone;
 use crate::nearest::{is_reached, nearest, shore_of};
 use crate::question::Question;
-use crate::reached::Reached;
 use crate::remembered::Remembered;
 use crate::slope::Slope;
 use crate::straight::Straight;
@@ -28,25 +24,11 @@ use crate::unmarked::blank_marks;
 use sim_base::{Cell, Items, OutOfMemory, Point, Points, cell_of, centre_of};
 use sim_grid::{Grid, octile};
 use sim_search::{
-    Ahead, Aim, Costs, Distances, Guide, Labels, Landmarks, Search, Stage, Toward, go_on,
-    least_costs, search_of, started,
+    Ahead, Aim, Distances, Guide, Labels, Search, Stage, Toward, go_on, least_costs, search_of,
+    started,
 };
 use sim_system::Way;
 use std::alloc::Global;
-
-// The point by which a way goes through a cell: its middle, or the goal itself.
-fn waypoint(cell: Cell, goal: &Point) -> Point
-    requires x { cell.x < 256 }
-    requires z { cell.z < 256 }
-    requires goal { IsPlaced goal.now }
-    ensures { result ≡ (if same_cell cell (cell_at goal.now) then goal.now else centre_at cell) }
-{
-    if cell == cell_of(*goal) {
-        *goal
-    } else {
-        centre_of(cell)
-    }
-}
 
 // The way that has the goal alone.
 fn way_within(alloc: Global, goal: &Point) -> Result<Way, OutOfMemory>
@@ -67,15 +49,18 @@ fn turn(trail: &mut Vec<Cell>)
     trail.as_mut_slice().reverse();
 }
 
-// The way through these cells.
+// The way through these cells: by the middle of each, but by the goal itself in its cell.
 fn way_through(alloc: Global, trip: Trip<'_>, goal: &Point) -> Result<Way, OutOfMemory>
     requires cells { All IsNarrow trip.cells.now }
     requires goal { IsPlaced goal.now }
     ensures { IfOk result (λ way. way_in way ≡ record { points = waypoints goal.now trip.entry.cells.now; whole = trip.entry.whole }) }
 {
+    let to = cell_of(*goal);
     let mut points = Vec::with_capacity(alloc, trip.cells.len())?;
     for cell in trip.cells {
-        points.push(waypoint(*cell, goal))?;
+        let cell = *cell;
+        let point = if cell == to { *goal } else { centre_of(cell) };
+        points.push(point)?;
     }
     Ok(Way {
         points: Points::from_items(points),
@@ -98,26 +83,11 @@ fn way_by(
     way_through(alloc, trip, goal)
 }
 
-// The end of the way, by what a search has found: the best of its ends, or where none of them has a cost, the best of all
-// cells that have one.
-fn way_end(question: &Question<'_>, costs: &Costs) -> Reached
-    requires size { size_of costs.now ≡ question.now.grid.now.size }
-    requires ends { HasItsEnds question.now }
-    requires costs { HasGoneTo (field_in question.now) question.now.start question.now.goal question.now.near question.now.ends.now (cost_in costs.now) }
-    ensures { IsWayEnd (field_in question.now) question.now.start question.now.goal (cost_in costs.now) result }
-{
-    match best_of(costs, question.ends, question.goal) {
-        Some(end) => end,
-        None => end_of(costs, question.start, question.goal),
-    }
-}
-
 /// The first 64 points of the shortest way over the open cells of the grid, and whether these are all of it. Within one cell
 /// that is the goal alone. The start counts as open. Where the goal can't be reached, the way leads to the reached cell that
 /// is nearest to it by the octile distance.
 pub fn way(alloc: Global, grid: &Grid, start: Point, goal: Point) -> Result<Way, OutOfMemory>
-    requires start { IsTrue (is_inside grid.now.size start) }
-    requires goal { IsTrue (is_inside grid.now.size goal) }
+    requires asked { IsAsked grid.now start goal }
     ensures is_way { IfOk result (λ way. IsWay (field_of_grid grid.now) start goal (way_in way)) }
     ensures way_of { IfOk result (λ way. way_in way ≡ way_of (field_of_grid grid.now) start goal) }
 {
@@ -168,12 +138,11 @@ pub struct Searcher {
 }
 
 impl Searcher {
-    ghost use Rattle.{sim_grid.specs.Grids.field_of_grid, sim_search.specs.Floods.label_in, sim_search.specs.Queues.Ready, sim_search.specs.Regions.AreLabels};
-    ghost use Rattle.std.specs.Prelude.{◌≡◌, ◌^◌, ◌<◌, true, IfOk, IfSome, OnOk, IsTrue};
-    ghost use Rattle.sim_base.specs.{Places.is_inside, Steps.octile, WayOf.way_of, Ways.IsWay, declared.place.Cell.Cell};
-    ghost use Rattle.sim_search.specs.Rows.{AreLandmarks, row_in};
-    ghost use Rattle.sim_path.specs.{Answers.way_in, Atlases.ground_in, Floors.IsSlope};
-    ghost use Rattle.sim_path.specs.Questions.{field_in, HasItsEnds, IsBetween, IsItsTrail, IsKnown, IsToTheGoal};
+    ghost use Rattle.std.specs.Prelude.{IfOk, IfSome, OnOk, true, ◌<◌, ◌^◌, ◌≡◌};
+    ghost use Rattle.sim_base.specs.{Places.octile, Ways.IsWay, Ways.way_of, declared.place.Cell.Cell};
+    ghost use Rattle.sim_path.specs.Questions.{IsKnown, IsToTheGoal, MayGoBack, field_in};
+    ghost use Rattle.sim_path.specs.{Answers.way_in, Atlases.ground_in, Questions.HasItsEnds, Questions.IsAsked, Questions.IsBetween, Questions.IsItsTrail};
+    ghost use Rattle.{sim_grid.specs.Grids.field_of_grid, sim_search.specs.Floods.AreLabels, sim_search.specs.Floods.label_in, sim_search.specs.Queues.Ready};
 
     /// A searcher that has no rooms yet.
     pub fn new() -> Searcher {
@@ -198,8 +167,7 @@ impl Searcher {
         goal: Point,
     ) -> Result<Way, OutOfMemory>
         requires labels { AreLabels (field_of_grid grid.now) (label_in labels.now) }
-        requires start { IsTrue (is_inside grid.now.size start) }
-        requires goal { IsTrue (is_inside grid.now.size goal) }
+        requires asked { IsAsked grid.now start goal }
         ensures is_way { IfOk result (λ way. IsWay (field_of_grid grid.now) start goal (way_in way)) }
         ensures way_of { IfOk result (λ way. way_in way ≡ way_of (field_of_grid grid.now) start goal) }
     {
@@ -243,27 +211,17 @@ impl Searcher {
         }
     }
 
-    // What is remembered of this ground: nothing yet, where there is none or it is full.
-    fn ways_of(&mut self, alloc: Global, grid: &Grid) -> Result<Remembered, OutOfMemory>
-        ensures { IfOk result (λ ways. ground_in ways.over ≡ grid.now) }
-    {
-        match self.ways.take() {
-            Some(ways) if ways.goes_on(grid) => Ok(ways),
-            _ => Remembered::of(alloc, grid),
-        }
-    }
-
     // Remembers the way. It is only kept, so want of memory is no refusal.
     fn remember(&mut self, alloc: Global, question: &Question<'_>, trip: Trip<'_>)
         requires { IsKnown question.now trip.cells.now trip.whole }
     {
-        if let Ok(mut ways) = self.ways_of(alloc, question.grid) {
+        if let Ok(mut ways) = Remembered::of(alloc, self.ways.take(), question.grid) {
             let _ = ways.keep(question.start, question.goal, trip);
             self.ways = Some(ways);
         }
     }
 
-    // The way to the best of the ends. It is remembered where it took a search, or the ends did.
+    // The way to the best of the ends, with no search where it is straight. It is remembered where it took a search, or the ends did.
     fn way_to(
         &mut self,
         alloc: Global,
@@ -276,10 +234,14 @@ impl Searcher {
         ensures { IfOk result (λ way. way_in way ≡ way_of (field_in question.now) start.now goal.now) }
     {
         let mut trail = room_of(alloc, self.trail.take());
-        let searched = self.find(alloc, question, &mut trail)?;
+        let straight = self.may_be_straight(question)
+            && self.go_back(alloc, question, Straight {}, &mut trail)?;
+        if !straight {
+            self.search(alloc, question, &mut trail)?;
+        }
         turn(&mut trail);
         let trip = trip_of(trail.as_slice());
-        if searched || question.near != 0 {
+        if !straight || question.near != 0 {
             self.remember(alloc, question, trip);
         }
         let way = way_by(alloc, question, trip, start, goal);
@@ -302,23 +264,6 @@ impl Searcher {
         }
     }
 
-    // Makes the trail back from the best of the ends, with no search where the way is straight, and says whether there was one.
-    fn find(
-        &mut self,
-        alloc: Global,
-        question: &Question<'_>,
-        trail: &mut Vec<Cell>,
-    ) -> Result<bool, OutOfMemory>
-        requires ends { HasItsEnds question.now }
-        ensures { OnOk result (IsItsTrail question.now trail.new.items) }
-    {
-        if self.may_be_straight(question) && self.go_back(alloc, question, Straight {}, trail)? {
-            return Ok(false);
-        }
-        self.search(alloc, question, trail)?;
-        Ok(true)
-    }
-
     // Whether a way to one of the ends costs as little as it is known that it must. If so, the trail is made of its cells, back
     // from that end. False says nothing.
     fn go_back<F: Descent>(
@@ -328,24 +273,13 @@ impl Searcher {
         floor: F,
         trail: &mut Vec<Cell>,
     ) -> Result<bool, OutOfMemory>
-        requires floor { F.holds (field_in question.now) question.now.start floor }
-        requires ends { HasItsEnds question.now }
+        requires { MayGoBack F.holds question.now floor }
         ensures { IfOk result (λ found. found ≡ true → IsItsTrail question.now trail.new.items) }
     {
         let mut dead = blank_marks(alloc, self.marks.take(), question.grid)?;
         let found = tight_to(question, floor, &mut dead, trail);
         self.marks = Some(dead);
         found
-    }
-
-    // What is kept of this ground: nothing yet, where there is none.
-    fn atlas_of(&mut self, alloc: Global, grid: &Grid) -> Result<Atlas, OutOfMemory>
-        ensures { IfOk result (λ atlas. ground_in atlas.cells ≡ grid.now) }
-    {
-        match self.atlas.take() {
-            Some(atlas) if atlas.is_of(grid) => Ok(atlas),
-            _ => Atlas::of(alloc, grid),
-        }
     }
 
     // Counts the detour of a search, and answers whether there were many. If so, the count begins anew.
@@ -361,7 +295,8 @@ impl Searcher {
         many
     }
 
-    // Makes the trail back from the best of the ends by a search, with what is kept of this ground, where something is.
+    // Makes the trail back from the best of the ends by a search, with what is kept of this ground, where something is. A search that was
+    // dear may have more kept for the next. It is only kept, so want of memory is no refusal.
     fn search(
         &mut self,
         alloc: Global,
@@ -375,26 +310,10 @@ impl Searcher {
             self.search_straight(alloc, question, trail)?;
             return Ok(());
         }
-        // It is only kept, so want of memory is no refusal.
-        if let Ok(atlas) = self.atlas_of(alloc, question.grid) {
-            return self.search_kept(alloc, question, atlas, trail);
-        }
-        self.search_straight(alloc, question, trail)?;
-        Ok(())
-    }
-
-    // The same with what is kept of this ground, to the goal itself. A search that was dear may have more kept for the next.
-    fn search_kept(
-        &mut self,
-        alloc: Global,
-        question: &Question<'_>,
-        mut atlas: Atlas,
-        trail: &mut Vec<Cell>,
-    ) -> Result<(), OutOfMemory>
-        requires to_goal { IsToTheGoal question.now }
-        requires atlas { ground_in atlas.cells ≡ question.now.grid.now }
-        ensures { OnOk result (IsItsTrail question.now trail.new.items) }
-    {
+        let Ok(mut atlas) = Atlas::of(alloc, self.atlas.take(), question.grid) else {
+            self.search_straight(alloc, question, trail)?;
+            return Ok(());
+        };
         let found = self.search_by(alloc, question, &atlas, trail);
         if let Ok(pains) = &found {
             atlas.note(alloc, question, &mut self.rooms, pains.opened);
@@ -421,64 +340,20 @@ impl Searcher {
     {
         if let Some(distances) = atlas.distances_to(question.goal) {
             let slope = Slope::of(distances, question.start);
-            if self.go_down(alloc, question, slope, trail)? {
+            if self.go_back(alloc, question, slope, trail)? {
+                return Ok(no_pains());
+            }
+            let mut live = blank_marks(alloc, self.marks.take(), question.grid)?;
+            let found = live_to(question, &slope, &mut live, trail);
+            self.marks = Some(live);
+            if found? {
                 return Ok(no_pains());
             }
             return self.search_straight(alloc, question, trail);
         }
-        match &atlas.landmarks {
-            Some(landmarks) => self.search_ahead(alloc, question, landmarks, trail),
-            None => self.search_straight(alloc, question, trail),
-        }
-    }
-
-    // Whether the way is found with no search by distances to the goal. If so, the trail is made of its cells. False says nothing.
-    fn go_down(
-        &mut self,
-        alloc: Global,
-        question: &Question<'_>,
-        slope: Slope<'_>,
-        trail: &mut Vec<Cell>,
-    ) -> Result<bool, OutOfMemory>
-        requires slope { IsSlope (field_in question.now) question.now.start slope }
-        requires ends { HasItsEnds question.now }
-        ensures { IfOk result (λ found. found ≡ true → IsItsTrail question.now trail.new.items) }
-    {
-        if self.go_back(alloc, question, slope, trail)? {
-            return Ok(true);
-        }
-        self.go_live(alloc, question, &slope, trail)
-    }
-
-    // Whether the way is read off the distances to the goal. If so, the trail is made of its cells. False says nothing.
-    fn go_live(
-        &mut self,
-        alloc: Global,
-        question: &Question<'_>,
-        slope: &Slope<'_>,
-        trail: &mut Vec<Cell>,
-    ) -> Result<bool, OutOfMemory>
-        requires { IsSlope (field_in question.now) question.now.start slope.now }
-        ensures { IfOk result (λ found. found ≡ true → IsItsTrail question.now trail.new.items) }
-    {
-        let mut live = blank_marks(alloc, self.marks.take(), question.grid)?;
-        let found = live_to(question, slope, &mut live, trail);
-        self.marks = Some(live);
-        found
-    }
-
-    // The same with these landmarks, to the goal itself.
-    fn search_ahead(
-        &mut self,
-        alloc: Global,
-        question: &Question<'_>,
-        landmarks: &Landmarks,
-        trail: &mut Vec<Cell>,
-    ) -> Result<Pains, OutOfMemory>
-        requires to_goal { IsToTheGoal question.now }
-        requires landmarks { AreLandmarks (field_in question.now) (row_in landmarks.now) }
-        ensures { OnOk result (IsItsTrail question.now trail.new.items) }
-    {
+        let Some(landmarks) = &atlas.landmarks else {
+            return self.search_straight(alloc, question, trail);
+        };
         let aim = Aim {
             goal: question.goal,
             near: question.near,
@@ -549,7 +424,10 @@ impl Searcher {
         let stage = go_on(alloc, stage, question.grid, guide, question.ends)?;
         let pains = pains_of(&stage, guide, question.start);
         let costs = &stage.search.costs;
-        let end = way_end(question, costs);
+        let end = match best_of(costs, question.ends, question.goal) {
+            Some(end) => end,
+            None => end_of(costs, question.start, question.goal),
+        };
         let found = trail_from(question, costs, trail, end);
         self.rooms = Some(search_of(stage));
         found?;
@@ -590,8 +468,7 @@ pub fn way_with(
     goal: Point,
 ) -> Result<Way, OutOfMemory>
     requires labels { AreLabels (field_of_grid grid.now) (label_in labels.now) }
-    requires start { IsTrue (is_inside grid.now.size start) }
-    requires goal { IsTrue (is_inside grid.now.size goal) }
+    requires asked { IsAsked grid.now start goal }
     ensures is_way { IfOk result (λ way. IsWay (field_of_grid grid.now) start goal (way_in way)) }
     ensures way_of { IfOk result (λ way. way_in way ≡ way_of (field_of_grid grid.now) start goal) }
 {

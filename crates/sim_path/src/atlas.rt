@@ -29,15 +29,19 @@ pub struct Atlas {
 }
 
 impl Atlas {
-    ghost use Rattle.std.specs.Prelude.{◌≡◌, true, IfOk, IfSome};
-    ghost use Rattle.sim_grid.specs.Grids.{field_of_grid, is_open_at};
-    ghost use Rattle.sim_path.specs.Atlases.{AreOn, ground_in};
-    ghost use Rattle.sim_search.specs.Distances.{AreDistances, number_in, size_about};
+    ghost use Rattle.std.specs.Prelude.{IfOk, IfSome, true, ◌≡◌};
+    ghost use Rattle.sim_search.specs.Rows.{AreDistances, number_in, size_about};
+    ghost use Rattle.{sim_grid.specs.Grids.field_of_grid, sim_grid.specs.Grids.is_open_at, sim_path.specs.Atlases.AreOn, sim_path.specs.Atlases.ground_in};
 
-    /// That of a grid, with no landmarks and no distances yet.
-    pub fn of(alloc: Global, grid: &Grid) -> Result<Atlas, OutOfMemory>
+    /// That of a grid: the earlier one, if it is of this grid, else one with no landmarks and no distances yet.
+    pub fn of(alloc: Global, earlier: Option<Atlas>, grid: &Grid) -> Result<Atlas, OutOfMemory>
         ensures { IfOk result (λ atlas. ground_in atlas.cells ≡ grid.now) }
     {
+        if let Some(atlas) = earlier {
+            if atlas.cells.are_of(grid) {
+                return Ok(atlas);
+            }
+        }
         let cells = KeptCells::of(alloc, grid)?;
         Ok(Atlas {
             cells,
@@ -56,13 +60,6 @@ impl Atlas {
         if let Ok(landmarks) = landmarks_on(alloc, question.grid, question.start) {
             self.landmarks = Some(landmarks);
         }
-    }
-
-    /// Whether it is of this grid.
-    pub fn is_of(&self, grid: &Grid) -> bool
-        ensures { result ≡ true → ground_in self.now.cells ≡ grid.now }
-    {
-        self.cells.are_of(grid)
     }
 
     /// The distances to a goal, if they are kept.

@@ -1,7 +1,7 @@
 //! The directions that lead straight away from a goal: a step in one of them adds what it costs to the octile distance.
 
-ghost use Rattle.std.specs.Prelude.{◌≡◌, ◌<◌};
-ghost use Rattle.sim_path.specs.Away.{AreAway, leads_away as leads_away_from};
+ghost use Rattle.std.specs.Prelude.{◌<◌, ◌≡◌};
+ghost use Rattle.sim_path.specs.Nearest.{AreAway, leads_away as leads_away_from};
 
 use sim_base::Cell;
 

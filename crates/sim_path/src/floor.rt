@@ -1,9 +1,8 @@
 //! What walks from a start cost at least. It stands apart from what tells it, since the ways back that are found by it read no more.
 
-ghost use Rattle.std.specs.Prelude.{◌≡◌, ℕ, ◌↔◌, true, IsTrue};
-ghost use Rattle.{sim_base.specs.declared.place.Cell.Cell, sim_path.specs.MarkTables.marked_in, sim_path.specs.Questions.field_in};
-ghost use Rattle.sim_base.specs.Steps.{Field, is_free, IsOnGround};
-ghost use Rattle.sim_path.specs.{WalkFloors.IsFloor, Straight.IsFirstTight};
+ghost use Rattle.std.specs.Prelude.{IsTrue, ℕ, ◌↔◌, ◌≡◌};
+ghost use Rattle.sim_base.specs.{Places.Field, declared.place.Cell.Cell};
+ghost use Rattle.sim_path.specs.Questions.{field_in, IsFirstTight, IsFloor, marked_in, MayDescend};
 
 use crate::marks::Marks;
 use crate::question::Question;
@@ -36,8 +35,6 @@ pub trait Descent: Floor {
 
     /// The first cell in the order of the directions from which a step makes up the floor of this one, but for the dead ones.
     fn first_tight(self, question: &Question<'_>, at: Cell, dead: &Marks) -> Option<Cell>
-        requires at_on { IsOnGround question.now.grid.now.size at }
-        requires free { is_free (field_in question.now) question.now.start at ≡ true }
-        requires floor { Self.holds (field_in question.now) question.now.start self }
+        requires { MayDescend Self.holds question.now self at }
         ensures { IsFirstTight (field_in question.now) question.now.start (Self.floor_of self question.now.start) (marked_in dead.now) at 8 result };
 }

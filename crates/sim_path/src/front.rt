@@ -1,9 +1,8 @@
 //! What walks from a start cost at least, by what a search knows that has come to a key.
 
-ghost use Rattle.sim_path.specs.{MarkTables.marked_in, Questions.field_behind, Questions.field_in};
-ghost use Rattle.std.specs.Prelude.{◌≡◌, ◌↔◌, true, IsTrue, Some, None};
-ghost use Rattle.sim_base.specs.{Steps.is_free as is_free_in, Steps.IsOnGround, declared.place.Cell.Cell};
-ghost use Rattle.sim_path.specs.{Floors.floor_of, Floors.IsFront, Floors.IsUnknown, Floors.left_of, Straight.IsFirstTight, Straight.IsNearStep};
+ghost use Rattle.std.specs.Prelude.{IsTrue, None, Some, true, ◌↔◌, ◌≡◌};
+ghost use Rattle.sim_base.specs.{Places.IsOnGround, declared.place.Cell.Cell};
+ghost use Rattle.sim_path.specs.Questions.{field_behind, field_in, floor_of, IsFirstTight, IsFront, IsNearStep, IsUnknown, left_of, marked_in, MayDescend};
 
 use crate::away::away_from;
 use crate::floor::{Descent, Floor};
@@ -61,9 +60,7 @@ fn near_step(back: &StepBack<'_>, dead: &Marks) -> Option<Cell>
 // The first cell in the order of the directions from which a step makes up the floor of this one, but for the dead ones, where
 // this one has no cost yet: such a step comes from straight beyond it, as seen from the goal.
 fn first_unknown(question: &Question<'_>, front: &Front, at: Reached, dead: &Marks) -> Option<Cell>
-    requires at_on { IsOnGround question.now.grid.now.size at.cell }
-    requires free { is_free_in (field_in question.now) question.now.start at.cell ≡ true }
-    requires front { IsFront (field_in question.now) question.now.start front.now }
+    requires known { MayDescend IsFront question.now front.now at.cell }
     requires unknown { IsUnknown front.now question.now.start at.cell }
     requires cost { at.cost ≡ left_of front.now at.cell }
     ensures { IsFirstTight (field_in question.now) question.now.start (floor_of front.now question.now.start) (marked_in dead.now) at.cell 8 result }
@@ -87,7 +84,7 @@ fn first_unknown(question: &Question<'_>, front: &Front, at: Reached, dead: &Mar
 }
 
 impl<'a> Floor for Front<'a> {
-    ghost use Rattle.sim_path.specs.Floors.{floor_of, IsFront};
+    ghost use Rattle.sim_path.specs.Questions.{floor_of, IsFront};
 
     ghost floor_of = { floor_of };
 

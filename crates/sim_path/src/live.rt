@@ -2,13 +2,10 @@
 //! falls by just what they cost leads to the cells of all shortest ways, and these are marked as live. So a walk back from the goal
 //! over live cells comes to the start.
 
-ghost use Rattle.{sim_base.specs.Steps.IsOnGround, sim_base.specs.declared.place.Cell.Cell, sim_path.specs.Questions.field_in};
-ghost use Rattle.std.specs.Prelude.{◌≡◌, ◌*◌, ◌<◌, true, false, IfOk, OnOk, Some, None, Contains};
-ghost use Rattle.sim_search.specs.Distances.{number_in, size_about};
-ghost use Rattle.sim_path.specs.{Floors.IsSlope, Floors.slope_of, MarkTables.IsNoneMarked, MarkTables.marked_in, MarkTables.size_of_marks};
-ghost use Rattle.sim_path.specs.Stands.{IsStand, IsToldOf, LooksBack};
-ghost use Rattle.sim_path.specs.Live.{AreLive, AreLiveBut, is_dead, IsFall, IsSpread, IsSpreadFrom, twice};
-ghost use Rattle.sim_path.specs.Straight.{IsFirstTight, IsTightStep, IsTightTrail};
+ghost use Rattle.std.specs.Prelude.{Contains, false, IfOk, None, OnOk, Some, true, ◌*◌, ◌<◌, ◌≡◌};
+ghost use Rattle.sim_path.specs.Questions.{AreLive, AreLiveBut, field_in, is_dead, IsFall, IsFirstTight, IsNoneMarked, IsSlope, IsSpread, IsSpreadFrom};
+ghost use Rattle.sim_path.specs.Questions.{IsStand, IsTightStep, IsTightTrail, IsToldOf, LooksAbout, marked_in, size_of_marks, slope_of, twice};
+ghost use Rattle.{sim_base.specs.Places.IsOnGround, sim_base.specs.declared.place.Cell.Cell, sim_search.specs.Rows.number_in, sim_search.specs.Rows.size_about};
 
 use crate::marks::Marks;
 use crate::question::Question;
@@ -29,9 +26,7 @@ fn falling_step(
     at: Stand,
     which: u8,
 ) -> Option<Cell>
-    requires which_in { which < 8 }
-    requires at { IsStand (field_in question.now) question.now.start (twice (number_in distances.now)) at }
-    requires size { size_about distances.now ≡ question.now.grid.now.size }
+    requires { LooksAbout question.now distances.now (twice (number_in distances.now)) at which }
     ensures none { result ≡ None → (b : Cell) → IsFall (field_in question.now) question.now.start (number_in distances.now) at.spot.cell b which → ⊥ }
     ensures some { (b : Cell) → result ≡ Some b → IsOnGround question.now.grid.now.size b }
     ensures only { (a b : Cell) → result ≡ Some a → IsFall (field_in question.now) question.now.start (number_in distances.now) at.spot.cell b which → a ≡ b }
@@ -120,7 +115,7 @@ fn live_step(
     at: Stand,
     which: u8,
 ) -> Option<Cell>
-    requires { LooksBack question.now slope.now at which }
+    requires { LooksAbout question.now slope.now.distances.now (slope_of slope.now) at which }
     ensures none { result ≡ None → (p : Cell) → IsTightStep (field_in question.now) question.now.start (slope_of slope.now) at.spot.cell p which
         → is_dead live.now p ≡ true }
     ensures some { (p : Cell) → result ≡ Some p → IsTightStep (field_in question.now) question.now.start (slope_of slope.now) at.spot.cell p which }
@@ -153,19 +148,23 @@ fn first_live(question: &Question<'_>, slope: &Slope<'_>, live: &Marks, cell: Ce
     None
 }
 
-// Whether a walk back from the goal over live cells comes to the start. If so, the trail is made of its cells, without the start. False says
-// nothing.
-fn live_trail(
+/// Whether a shortest way from the start to the goal is read off the distances: a walk back from there over live cells comes to the start. If so,
+/// the trail is made of its cells, without the start. False says nothing.
+#[inline(never)]
+pub fn live_to(
     question: &Question<'_>,
     slope: &Slope<'_>,
-    live: &Marks,
+    live: &mut Marks,
     trail: &mut Vec<Cell>,
 ) -> Result<bool, OutOfMemory>
     requires slope { IsSlope (field_in question.now) question.now.start slope.now }
-    requires live { AreLive (field_in question.now) question.now.start (number_in slope.now.distances.now) (marked_in live.now) }
+    requires live { IsNoneMarked question.now.grid.now.size live.old }
     ensures { IfOk result (λ found. found ≡ true → IsTightTrail (field_in question.now) question.now.start (slope_of slope.now) question.now.goal
         trail.new.items) }
 {
+    if !mark_all(question, slope.distances, live, trail)? {
+        return Ok(false);
+    }
     trail.clear();
     let (start, goal) = (question.start, question.goal);
     if !is_free(question.grid, start, goal) {
@@ -183,25 +182,4 @@ fn live_trail(
         at = from;
     }
     Ok(false)
-}
-
-/// Whether a shortest way from the start to a cell is read off the distances. If so, the trail is made of its cells, back from there. False
-/// says nothing.
-#[inline(never)]
-pub fn live_to(
-    question: &Question<'_>,
-    slope: &Slope<'_>,
-    live: &mut Marks,
-    trail: &mut Vec<Cell>,
-) -> Result<bool, OutOfMemory>
-    requires slope { IsSlope (field_in question.now) question.now.start slope.now }
-    requires live { IsNoneMarked question.now.grid.now.size live.old }
-    ensures { IfOk result (λ found. found ≡ true → IsTightTrail (field_in question.now) question.now.start (slope_of slope.now) question.now.goal
-        trail.new.items) }
-{
-    if mark_all(question, slope.distances, live, trail)? {
-        live_trail(question, slope, live, trail)
-    } else {
-        Ok(false)
-    }
 }

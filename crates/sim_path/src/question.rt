@@ -1,6 +1,6 @@
 //! What a search is asked. It stands apart from the calls that answer it, whose contracts speak of it.
 
-ghost use Rattle.{sim_base.specs.Steps.IsOnGround, sim_grid.specs.Grids.IsGroundSize};
+ghost use Rattle.{sim_base.specs.Places.IsOnGround, sim_grid.specs.Grids.IsGroundSize};
 
 use sim_base::Cell;
 use sim_grid::Grid;

@@ -1,8 +1,8 @@
 //! Ways that are remembered, each by the two cells between which it leads. Where several ask for ways over one ground, as the clients
 //! of a session do, each way is so searched once. They stand beside the open cells of their ground, and tell nothing of another.
 
-ghost use Rattle.std.specs.Prelude.{◌≡◌, ◌<◌, vec_len, IfSome, All};
-ghost use Rattle.sim_path.specs.{Atlases.ground_in, Remembering.IsRight};
+ghost use Rattle.std.specs.Prelude.{All, IfSome, vec_len, ◌<◌, ◌≡◌};
+ghost use Rattle.sim_path.specs.{Atlases.ground_in, Questions.IsRight};
 
 use crate::kept::KeptCells;
 use crate::question::Question;
@@ -38,13 +38,22 @@ pub struct Remembered {
 }
 
 impl Remembered {
-    ghost use Rattle.std.specs.Prelude.{◌≡◌, true, IfOk, IfSome};
-    ghost use Rattle.{sim_grid.specs.Grids.field_of_grid, sim_path.specs.Questions.IsKnown, sim_path.specs.Remembering.AreFirst};
+    ghost use Rattle.std.specs.Prelude.{IfOk, IfSome, true, ◌≡◌};
+    ghost use Rattle.{sim_grid.specs.Grids.field_of_grid, sim_path.specs.Questions.AreFirst, sim_path.specs.Questions.IsKnown};
 
-    /// None yet, of this ground.
-    pub fn of(alloc: Global, grid: &Grid) -> Result<Remembered, OutOfMemory>
+    /// Those of this ground: the earlier ones, if they are of it and there is room for one more, else none yet.
+    pub fn of(
+        alloc: Global,
+        earlier: Option<Remembered>,
+        grid: &Grid,
+    ) -> Result<Remembered, OutOfMemory>
         ensures { IfOk result (λ ways. ground_in ways.over ≡ grid.now) }
     {
+        if let Some(ways) = earlier {
+            if ways.goes_on(grid) {
+                return Ok(ways);
+            }
+        }
         let over = KeptCells::of(alloc, grid)?;
         let places = vec![in alloc; None; PLACES]?;
         Ok(Remembered {
@@ -54,8 +63,8 @@ impl Remembered {
         })
     }
 
-    /// Whether they are of this ground, and there is room for one more.
-    pub fn goes_on(&self, grid: &Grid) -> bool
+    // Whether they are of this ground, and there is room for one more.
+    fn goes_on(&self, grid: &Grid) -> bool
         ensures { result ≡ true → ground_in self.now.over ≡ grid.now }
     {
         self.cells.len() <= MOST_CELLS - MAX_WAYPOINTS && self.over.are_of(grid)

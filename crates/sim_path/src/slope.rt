@@ -1,11 +1,10 @@
 //! What walks from a start cost at least, by the distances to a goal that a way from there has. As these are exact, it is just what a
 //! walk costs to each cell of a shortest way.
 
-ghost use Rattle.sim_base.specs.{Steps.IsOnGround, Steps.octile as octile_of, declared.place.Cell.Cell};
-ghost use Rattle.{sim_grid.specs.Spots.IsSpot, sim_path.specs.Questions.field_in};
-ghost use Rattle.sim_path.specs.{Floors.slope_of, MarkTables.marked_in, Stands.IsToldOf, Stands.LooksBack, Straight.IsFirstTight, Straight.IsTight, Straight.IsTightStep};
-ghost use Rattle.sim_search.specs.Distances.{number_in, size_about};
-ghost use Rattle.std.specs.Prelude.{◌*◌, ◌+◌, ◌<◌, ◌↔◌, ◌≡◌, ◌≢◌, ◌≤◌, false, IsTrue, None, Some, true};
+ghost use Rattle.std.specs.Prelude.{false, IsTrue, None, Some, true, ◌*◌, ◌+◌, ◌<◌, ◌↔◌, ◌≡◌, ◌≢◌, ◌≤◌};
+ghost use Rattle.sim_path.specs.Questions.{IsTight, LooksAbout, field_in, marked_in, slope_of};
+ghost use Rattle.{sim_base.specs.Places.IsOnGround, sim_grid.specs.Grids.IsSpot, sim_search.specs.Rows.number_in, sim_search.specs.Rows.size_about};
+ghost use Rattle.{sim_base.specs.Places.octile as octile_of, sim_base.specs.declared.place.Cell.Cell, sim_path.specs.Questions.IsTightStep};
 
 use crate::floor::{Descent, Floor};
 use crate::marks::Marks;
@@ -23,9 +22,8 @@ pub struct Slope<'a> {
 }
 
 impl<'a> Slope<'a> {
-    ghost use Rattle.std.specs.Prelude.{◌≡◌, ◌*◌, ◌-◌};
-    ghost use Rattle.{sim_grid.specs.Spots.IsSpot, sim_path.specs.Floors.slope_of};
-    ghost use Rattle.sim_search.specs.Distances.{number_in, size_about};
+    ghost use Rattle.std.specs.Prelude.{◌*◌, ◌-◌, ◌≡◌};
+    ghost use Rattle.{sim_grid.specs.Grids.IsSpot, sim_path.specs.Questions.slope_of, sim_search.specs.Rows.number_in, sim_search.specs.Rows.size_about};
 
     /// That of ways from a start.
     pub fn of(distances: &'a Distances, start: Cell) -> Slope<'a>
@@ -88,7 +86,7 @@ fn slope_step(
     which: u8,
     dead: &Marks,
 ) -> Option<Cell>
-    requires { LooksBack question.now slope.now at which }
+    requires { LooksAbout question.now slope.now.distances.now (slope_of slope.now) at which }
     ensures none { result ≡ None → (p : Cell) → IsTightStep (field_in question.now) question.now.start (slope_of slope.now) at.spot.cell p which
         → IsTight (field_in question.now) question.now.start (slope_of slope.now) p → marked_in dead.now p ≡ true }
     ensures some { (p : Cell) → result ≡ Some p → IsTightStep (field_in question.now) question.now.start (slope_of slope.now) at.spot.cell p which }
@@ -107,32 +105,8 @@ fn slope_step(
     }
 }
 
-// The first such cell in the order of the directions.
-fn first_descent(
-    question: &Question<'_>,
-    slope: &Slope<'_>,
-    cell: Cell,
-    dead: &Marks,
-) -> Option<Cell>
-    requires { IsToldOf question.now.grid.now.size slope.now.distances.now cell }
-    ensures { IsFirstTight (field_in question.now) question.now.start (slope_of slope.now) (marked_in dead.now) cell 8 result }
-{
-    let place = question.grid.place(cell);
-    let at = Stand {
-        spot: Spot { cell, place },
-        moves: moves_from(question.grid, question.start, cell),
-        cost: slope.left(cell),
-    };
-    for which in 0..8u8 {
-        if let Some(from) = slope_step(question, slope, at, which, dead) {
-            return Some(from);
-        }
-    }
-    None
-}
-
 impl<'a> Floor for Slope<'a> {
-    ghost use Rattle.sim_path.specs.{Floors.IsSlope, Floors.slope_from, SlopeLaws.slope-floor};
+    ghost use Rattle.sim_path.specs.{Questions.IsSlope, Questions.slope_from, SlopeLaws.slope-floor};
 
     ghost floor_of = { slope_from };
 
@@ -161,6 +135,17 @@ impl<'a> Descent for Slope<'a> {
     }
 
     fn first_tight(self, question: &Question<'_>, at: Cell, dead: &Marks) -> Option<Cell> {
-        first_descent(question, &self, at, dead)
+        let place = question.grid.place(at);
+        let stand = Stand {
+            spot: Spot { cell: at, place },
+            moves: moves_from(question.grid, question.start, at),
+            cost: self.left(at),
+        };
+        for which in 0..8u8 {
+            if let Some(from) = slope_step(question, &self, stand, which, dead) {
+                return Some(from);
+            }
+        }
+        None
     }
 }

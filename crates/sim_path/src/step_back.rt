@@ -1,7 +1,7 @@
 //! A step back. It stands apart from the calls that try one, whose contracts speak of it.
 
-ghost use Rattle.{sim_base.specs.Steps.IsOnGround, sim_grid.specs.Grids.field_of_grid, sim_search.specs.Moves.AreMoves};
 ghost use Rattle.std.specs.Prelude.{◌<◌};
+ghost use Rattle.{sim_base.specs.Places.IsOnGround, sim_grid.specs.Grids.field_of_grid, sim_search.specs.Moves.AreMoves};
 
 use crate::question::Question;
 use crate::reached::Reached;

@@ -2,11 +2,10 @@
 //! tried in the order of the directions, and those to which none leads are noted. So the way to an end is found before
 //! all cells are taken that cost as much.
 
-ghost use Rattle.{sim_path.specs.MarkTables.IsNoneMarked, sim_path.specs.MarkTables.marked_in, sim_path.specs.WayEnds.IsBestOf};
-ghost use Rattle.std.specs.Prelude.{◌≡◌, true, IfOk, Some, None};
-ghost use Rattle.sim_base.specs.{Steps.IsOnGround, declared.place.Cell.Cell};
-ghost use Rattle.sim_path.specs.Questions.{field_behind, field_in, HasItsEnds, IsItsTrail};
-ghost use Rattle.sim_path.specs.Straight.{floor_cost, IsFirstTight, IsTightStep, IsTightTrail};
+ghost use Rattle.std.specs.Prelude.{IfOk, None, Some, true, ◌≡◌};
+ghost use Rattle.sim_base.specs.{Places.IsOnGround, declared.place.Cell.Cell};
+ghost use Rattle.sim_path.specs.Questions.{field_behind, field_in, floor_cost, IsFirstTight, IsItsTrail, IsNoneMarked, IsTightStep, IsTightTrail, marked_in};
+ghost use Rattle.sim_path.specs.{Questions.MayGoBack, WayEnds.IsBestOf};
 
 use crate::end::better_than;
 use crate::floor::{Descent, Floor};
@@ -125,8 +124,7 @@ pub fn tight_to<F: Descent>(
     trail: &mut Vec<Cell>,
 ) -> Result<bool, OutOfMemory>
     requires dead { IsNoneMarked question.now.grid.now.size dead.old }
-    requires floor { F.holds (field_in question.now) question.now.start floor }
-    requires ends { HasItsEnds question.now }
+    requires known { MayGoBack F.holds question.now floor }
     ensures { IfOk result (λ found. found ≡ true → IsItsTrail question.now trail.new.items) }
 {
     match tight_end(question, floor) {

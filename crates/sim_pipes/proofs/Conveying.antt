@@ -1,12 +1,13 @@
 -- An exchange goes on having the server and the pipes of a session, through each of its calls.
-use Rattle.std.proofs.Common.{set, get_or-set_other, get_or-set_same}
 use Rattle.sim_base.specs.{Turn.Past, declared.setup.Setup.Setup}
-use Rattle.sim_pipes.proofs.Common.{arith, Arrival, cases_eq, cond-false, cond-true, Conveys, Cut, eq-eqb, Heard, Held, inl, inr, IsDownFrame, IsUpFrame}
-use Rattle.sim_pipes.proofs.Common.{ne_eqb, pipe_in, posts, Rules, Sends, subst, sym, UpOf, View, ◌∙◌}
-use Rattle.sim_pipes.proofs.Common.{◌≡◌, ℕ, zero, suc, ◌<◌, ◌≤◌, ◌⊎◌, List, [], ◌∷◌, ◌++◌, map, length, get_or, OnOk, Ok, Err, Result, refl, ap, AreFrames}
-use Rattle.sim_plain.specs.{Functions.put, Messages.carry_arrival, Messages.carry_down, Messages.carry_up, Server.heard}
-use Rattle.sim_plain_session.{proofs.InBytes.bytes_go_down, proofs.InBytes.server_hears_bytes, specs.Bytes.downs_of, specs.Bytes.spelled, specs.Bytes.ups_of}
-use Rattle.sim_plain_session.specs.{Clients.Down, Clients.Off, Clients.Phase, Clients.Up, Sessions.arrives, Sessions.cut, Sessions.rises, Sessions.Session}
+use Rattle.sim_pipes.proofs.Common.{[], ap, AreFrames, arith, Arrival, cases_eq, cond-false, cond-true, Conveys, Cut, eq-eqb, Err, get_or, Heard, Held, inl}
+use Rattle.sim_pipes.proofs.Common.{inr, IsDownFrame, IsUpFrame, length, List, map, ne_eqb, Ok, OnOk, pipe_in, posts, refl, Result, Rules, Sends, subst, suc}
+use Rattle.sim_pipes.proofs.Common.{sym, UpOf, View, zero, ℕ, ◌++◌, ◌<◌, ◌∙◌, ◌∷◌, ◌≡◌, ◌≤◌, ◌⊎◌}
+use Rattle.sim_plain.specs.{Messages.carry_arrival, Messages.carry_down, Messages.carry_up, Server.heard, Server.put}
+use Rattle.sim_plain_session.proofs.Arrived.{bytes_go_down, server_hears_bytes}
+use Rattle.sim_plain_session.specs.Clients.{Down, Off, Phase, Up}
+use Rattle.sim_plain_session.specs.Sessions.{arrives, cut, downs_of, rises, Session, spelled, ups_of}
+use Rattle.std.proofs.Common.{get_or-set_other, get_or-set_same, set}
 
 abbrev Frames : Type 0
 Frames = List (List ℕ)

@@ -1,9 +1,21 @@
 -- What each client gets of a list of posts.
-use Rattle.{sim_plain.specs.Posts.post_list, sim_plain.specs.Posts.posted_to, sim_plain.specs.Posts.Posts, std.specs.List.AllByRecursion}
-use Rattle.std.proofs.{Common.◌==◌, lemmas.List.Elements.All-append, lemmas.List.Elements.All-cons, lemmas.List.Elements.All-nil}
-use Rattle.sim_pipes.proofs.Common.{refl, ap, append-nil, arith, cases_eq, cond-false, cond-true, DownOf, eq-eqb, inl, inr, ne_eqb, PostOf, sym, take_more}
-use Rattle.sim_pipes.proofs.Common.{told_to, ◌∙◌}
-use Rattle.sim_pipes.proofs.Common.{◌≡◌, ℕ, zero, suc, ◌+◌, ◌<◌, ◌≤◌, Bool, true, false, ◌⊎◌, List, [], ◌∷◌, ◌++◌, length, get_or, take, if◌then◌else◌, All}
+use Rattle.sim_base.specs.declared.step.Event.TheVariants as event
+use Rattle.sim_plain.specs.declared.message.UpOf.TheVariants as up
+use Rattle.sim_base.specs.declared.command.Command.TheVariants.{Attack, Delete, Place, Resign, Stop, Train, Walk}
+use Rattle.sim_base.specs.{Limits.HasFewIds, declared.command.Command.Command, declared.memory.OutOfMemory.OutOfMemory}
+use Rattle.sim_pipes.proofs.Common.{UpOf, View, told_to, true, zero, ℕ, ◌++◌, ◌+◌, ◌<◌, ◌∙◌, ◌∷◌, ◌≡◌, ◌≤◌, ◌⊎◌}
+use Rattle.sim_pipes.proofs.Common.{[], All, ap, append-nil, AreFrames, arith, Arrival, Bool, cases_eq, cond-false, cond-true, Cut, DownOf, eq-eqb, Err, false}
+use Rattle.sim_pipes.proofs.Common.{filter_map, get_or, Heard, if◌then◌else◌, inl, inr, IsDownFrame, IsSmallServer, length, List, ne_eqb, notice_events}
+use Rattle.sim_pipes.proofs.Common.{notice_in, Ok, pipe_in, PostOf, posts, raw, refl, Result, Rules, Sends, server_of, subst, suc, sym, take, take_more}
+use Rattle.sim_plain.specs.Server.{command_fault, done_fault, is_in, is_out, noticed, post_list, posted_to, Posts, posts_of, Report, report_fault, Server}
+use Rattle.sim_plain.specs.declared.status.Status.TheVariants.{Out, Waiting}
+use Rattle.sim_plain.specs.{Messages.sender, Server.takes_state, declared.status.Status.Status, declared.status.Status.TheVariants.In}
+use Rattle.sim_server.{proofs.Smallness.servers_stay_small, specs.Standing.IsSmallArrival, specs.Standing.Makes}
+use Rattle.sim_wire.specs.{Memory.heard_or_cut, Memory.message_in, Reading.CommandFits, Reading.IsSmallDown, Reading.IsSmallUp, Reading.UpFits}
+use Rattle.std.proofs.Common.{is_none, None, Option, Some, true≢false, ◌==◌}
+use Rattle.std.proofs.lemmas.List.{Elements.All-append, Elements.All-cons, Elements.All-nil, Elements.filter_map-append, map-append}
+use Rattle.{sim_plain.proofs.Told.none_told, sim_plain.proofs.Told.notices_are_told, sim_plain.proofs.Told.told, sim_server.proofs.Smallness.posts_are_small}
+use Rattle.{sim_wire.proofs.Fronts.AreBytes, sim_wire.proofs.Hearing.is_frame, std.specs.List.AllByRecursion, std.specs.Prelude.IfOk}
 
 pub told_to-append : {B : Type 0} (c : ℕ) (xs ys : List (PostOf B)) → told_to c (xs ++ ys) ≡ told_to c xs ++ told_to c ys
 told_to-append c [] ys = refl
@@ -69,3 +81,116 @@ clients_are_told {B} n posts = all_posts (λ (post : PostOf B). (0 < post.to) ×
 
 pub clients_below : {B : Type 0} (n : ℕ) (posts : Posts B) → All (λ (post : PostOf B). post.to < suc n) (post_list n posts)
 clients_below {B} n posts = all_posts (λ (post : PostOf B). post.to < suc n) n posts (λ c low high. always _ (posts c) (λ down. omega (arith, high)))
+
+-- Who is heard is told of the notice that this gives.
+
+-- what one says that is not in gives no notice
+none_outside : {B : Type 0} (rules : Rules) (s : Server) (a : Arrival B) → is_in (s.status (sender a)) ≡ false → noticed rules s a ≡ []
+none_outside rules s (Heard c up.Join) out = none_told s (is_out (s.status c))
+none_outside rules s (Heard c (up.Command t x)) out = none_told s (is_none (command_fault rules (s.kept t) c t (s.status c)))
+none_outside rules s (Heard c (up.Done t)) out = none_told s (is_none (done_fault rules s.released t (s.status c)))
+none_outside rules s (Heard c (up.Report t g)) out = by (s.status c) out
+  where
+    by : (st : Status) → is_in st ≡ false → told s (if is_none (report_fault s.released t st) then (t, (c, g)) ∷ [] else []) ≡ []
+    by Out e = refl
+    by (Waiting j) e = refl
+    by (In done) e = absurd (true≢false e)
+none_outside rules s (Heard c (up.State j t carried)) out = none_told s (takes_state s.released c t (s.status j))
+none_outside rules s (Cut c) out = none_told s true
+
+pub own_notice : {B : Type 0} (rules : Rules) (s : Server) (a : Arrival B) → filter_map notice_in (posts rules s a (sender a)) ≡ noticed rules s a
+own_notice rules s a = notices_are_told rules s a (sender a) ∙ by (is_in (s.status (sender a))) refl
+  where
+    by : (b : Bool) → is_in (s.status (sender a)) ≡ b → (if b then noticed rules s a else []) ≡ noticed rules s a
+    by true e = refl
+    by false e = sym (none_outside rules s a e)
+
+pub sender_is_noticed : {B : Type 0} (rules : Rules) (s : Server) (a : Arrival B) → 0 < sender a → sender a ≤ rules.clients
+    → filter_map notice_in (told_to (sender a) (posts_of rules s a)) ≡ noticed rules s a
+sender_is_noticed rules s a low high = ap (filter_map notice_in) (told_each rules.clients (sender a) (posts rules s a) low high) ∙ own_notice rules s a
+
+-- the notices of one post more
+pub notices_more : {B : Type 0} (c : ℕ) (all : List (PostOf B)) (i : ℕ) (post : PostOf B) → i < length all → post ≡ get_or all i post
+    → notice_events (filter_map notice_in (told_to c (take (i + 1) all))) ≡ notice_events (filter_map notice_in (told_to c (take i all))) ++ notice_events
+    (filter_map notice_in (told_to c (post ∷ [])))
+notices_more c all i post lt is =
+    ap (λ l. notice_events (filter_map notice_in l)) (told_more c all i post lt is)
+    ∙ ap notice_events (filter_map-append notice_in (told_to c (take i all)) (told_to c (post ∷ [])))
+    ∙ map-append (λ (n : ℕ × ℕ). event.Notice n.0 n.1) (filter_map notice_in (told_to c (take i all))) (filter_map notice_in (told_to c (post ∷ [])))
+
+-- What the server says to an arrival has frames, and goes to clients.
+
+abbrev Bytes : Type 0
+Bytes = List ℕ
+
+abbrev Answer : Type 0
+Answer = Result (List (PostOf Bytes)) OutOfMemory
+
+-- ---- what arrives in bytes
+
+-- a command that fits has few ids
+few_ids : (command : Command) → CommandFits command → HasFewIds command
+few_ids (Walk ids to) fits = fits.0.few
+few_ids (Stop ids) fits = fits.few
+few_ids (Attack ids target) fits = fits.0.few
+few_ids (Delete ids) fits = fits.few
+few_ids (Place template at) fits = tt
+few_ids (Train building template) fits = tt
+few_ids Resign fits = tt
+
+-- and a message that fits is small
+small_up : (message : UpOf Bytes) → UpFits message → IsSmallUp message
+small_up up.Join fits = tt
+small_up (up.Command turn command) fits = few_ids command fits.1
+small_up (up.Done turn) fits = tt
+small_up (up.Report turn digest) fits = tt
+small_up (up.State client turn bytes) fits = fits.1
+
+-- so what arrives with any bytes is
+pub raw_is_small : (from : ℕ) (bytes : Bytes) → AreBytes bytes → IsSmallArrival (raw from bytes)
+raw_is_small from bytes all = by (message_in bytes) refl
+  where
+    by : (read : Option (UpOf Bytes)) → message_in bytes ≡ read → IsSmallArrival (heard_or_cut from read)
+    by None e = tt
+    by (Some message) e = small_up message (is_frame bytes all message e).fits
+
+-- ---- what the server makes of an arrival
+
+pub makes_rules : (old : View) (a : Arrival Bytes) (r : Answer) (new : View) → Makes old a r new → new.rules ≡ old.rules
+makes_rules old a (Ok posts) new made = made.rules
+makes_rules old a (Err e) new same = same.rules
+
+pub makes_small : (old : View) (a : Arrival Bytes) (r : Answer) (new : View) → IsSmallServer (server_of old) → IsSmallArrival a → Makes old a r new
+    → IsSmallServer (server_of new)
+makes_small old a (Ok posts) new small fits made = subst IsSmallServer (sym made.server) (servers_stay_small old.rules (server_of old) a small fits)
+makes_small old a (Err e) new small fits same = subst IsSmallServer (sym same.server) small
+
+pub hears_small : (old : View) (from : ℕ) (bytes : Bytes) (r : Answer) (new : View) → IsSmallServer (server_of old) → AreBytes bytes
+    → Makes old (raw from bytes) r new → IsSmallServer (server_of new)
+hears_small old from bytes r new small all made = makes_small old (raw from bytes) r new small (raw_is_small from bytes all) made
+
+pub to_clients : (old : View) (a : Arrival Bytes) (r : Answer) (new : View) → Makes old a r new
+    → IfOk r (All (λ (post : PostOf Bytes). post.to < suc old.rules.clients))
+to_clients old a (Ok sent) new made = subst (All (λ (post : PostOf Bytes). post.to < suc old.rules.clients)) (sym made.said)
+    (clients_below old.rules.clients (posts old.rules (server_of old) a))
+to_clients old a (Err e) new same = tt
+
+pub have_frames : (old : View) (a : Arrival Bytes) (r : Answer) (new : View) → IsSmallServer (server_of old) → IsSmallArrival a → Makes old a r new
+    → IfOk r (All (λ (post : PostOf Bytes). IsSmallDown post.down))
+have_frames old a (Ok sent) new small fits made =
+    subst (All (λ (post : PostOf Bytes). IsSmallDown post.down)) (sym made.said)
+    (all_posts (λ (post : PostOf Bytes). IsSmallDown post.down) old.rules.clients (posts old.rules (server_of old) a)
+    (λ c low high. posts_are_small old.rules (server_of old) a c small fits))
+have_frames old a (Err e) new small fits same = tt
+
+-- posts that are delivered are what the server says to each client
+pub sends : (old : View) (before : List (List Bytes)) (a : Arrival Bytes) (sent : List (PostOf Bytes)) (new : View) (pipes : List (List Bytes))
+    → Makes old a (Ok sent) new
+    → ((c : ℕ) (messages : List (DownOf Bytes)) → AreFrames IsDownFrame (pipe_in before c) messages → AreFrames IsDownFrame (pipe_in pipes c)
+    (messages ++ told_to c sent))
+    → Sends old before a new pipes
+sends old before a sent new pipes made delivered = record {
+  server = made.server;
+  told = λ c messages low high are. subst (λ said. AreFrames IsDownFrame (pipe_in pipes c) (messages ++ said))
+      (ap (told_to c) made.said ∙ told_each old.rules.clients c (posts old.rules (server_of old) a) low high) (delivered c messages are);
+}

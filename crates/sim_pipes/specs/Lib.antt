@@ -1,4 +1,3 @@
 pub mod Common
 pub mod Pipes
 pub mod Posts
-pub mod Exchanges

@@ -2,10 +2,10 @@
 //!
 //! After want of memory it may only be let go: a message may be lost then.
 
-ghost use Rattle.std.specs.Prelude.{◌≡◌, ℕ, suc, ◌≤◌, false, List, [], ◌∷◌, map, IfOk, if◌then◌else◌, OnOk, IsOk, All};
-ghost use Rattle.sim_pipes.specs.{Exchanges.Conveys, Exchanges.Falls, Pipes.AreEmpty, Pipes.AreFrames, Pipes.pipe_in, Pipes.Reads};
+ghost use Rattle.std.specs.Prelude.{[], All, false, IfOk, if◌then◌else◌, IsOk, List, map, OnOk, suc, ℕ, ◌∷◌, ◌≡◌, ◌≤◌};
 ghost use Rattle.sim_pipes.specs.Common.{Acted, acts, carry_up, Cut, cut as cut_off, down_carries, DownOf, Heard, IsClient, IsDownFrame, IsSilent, IsSmallUp};
 ghost use Rattle.sim_pipes.specs.Common.{IsUpFrame, opened, rise_events, rises, rules_of, server_of, Session, Setup as PlainSetup, spelled, up_carries, UpOf};
+ghost use Rattle.sim_pipes.specs.Pipes.{AreEmpty, AreFrames, Conveys, Falls, pipe_in, Reads};
 
 use crate::hearing::{hear, see_cut};
 use crate::pipe::Pipe;
@@ -27,7 +27,7 @@ pub struct Exchange {
 }
 
 impl Model for Exchange {
-    ghost use Rattle.sim_pipes.specs.Exchanges.{Held, IsReady};
+    ghost use Rattle.sim_pipes.specs.Pipes.{Held, IsReady};
 
     ghost Value = { Held };
 

@@ -1,17 +1,16 @@
 -- The words that the proofs here name again and again, passed on from one place. Declares nothing.
-pub use Rattle.std.proofs.{Common.sym, Common.true≢false, Common.◌∙◌, lemmas.List.Elements.filter_map-append}
-pub use Rattle.std.proofs.Common.{if◌then◌else◌, nat_lt, nat_le, ◌==◌, Some, None, filter, Option, option_map, refl, ap, append-nil, arith, inl, inr, subst}
-pub use Rattle.std.proofs.Common.{◌≡◌, ℕ, zero, suc, ◌+◌, ◌-◌, ◌<◌, ◌≤◌, min, Bool, true, false, not, ◌&&◌, ◌⊎◌, List, [], ◌∷◌, ◌++◌, map, is_some, is_none}
-pub use Rattle.std.proofs.lemmas.Bool.{and_parts, cases_eq, cases_lt, cond-false, cond-true, eq-eqb, eqb-true, ne_eqb}
-pub use Rattle.std.specs.{List.cons_option, Prelude.filter_map}
 pub use Rattle.sim_base.specs.declared.command.{Command.TheVariants.Resign, Command.TheVariants.Stop, PlayerCommand.PlayerCommand}
-pub use Rattle.sim_plain.specs.{Functions.put, Functions.up_to, declared.message.DownOf.DownOf, declared.message.PostOf.PostOf, declared.rules.Rules.Rules}
-pub use Rattle.sim_plain.specs.{History.released_by, Server.turn_fault, Server.unless, Server.waits_for, Server.with_status}
-pub use Rattle.sim_plain.specs.History.{command_of, done_by, done_in, dones_by, dones_step, entry_by, entry_step, greatest, is_accepted, kept_by, least_dones}
-pub use Rattle.sim_plain.specs.Messages.{Arrival, carry_arrival, carry_down, Cut, Heard, sender}
-pub use Rattle.sim_plain.specs.Notices.{first_mark, notice_in, noticed, notices, notices_given, reference_by, Report, report_of, reports}
-pub use Rattle.sim_plain.specs.Posts.{asked, differs, kept_above, loading, nobody, Posts, posts, refusal, release, served, to_all, to_one}
-pub use Rattle.sim_plain.specs.Server.{command_fault, done_fault, donor, entry_done, first_of, first_or, heard, is_in, is_out, keeps, least_done, least_in}
-pub use Rattle.sim_plain.specs.Server.{lesser, opening, raised, raised_to, report_fault, reported, reseated, seat, Server, server_after, takes_state}
+pub use Rattle.sim_plain.specs.Server.{Posts, posts, put, raised, raised_to, reference_by, refusal, release, released_by, Report, report_fault, report_of}
+pub use Rattle.sim_plain.specs.Server.{asked, command_fault, command_of, differs, done_by, done_fault, done_in, dones_by, dones_step, donor, entry_by}
+pub use Rattle.sim_plain.specs.Server.{entry_done, entry_step, first_mark, first_of, first_or, greatest, heard, is_accepted, is_in, is_out, keeps, kept_above}
+pub use Rattle.sim_plain.specs.Server.{kept_by, least_done, least_dones, least_in, lesser, loading, nobody, notice_in, noticed, notices, notices_given, opening}
+pub use Rattle.sim_plain.specs.Server.{reported, reports, reseated, seat, served, Server, server_after, takes_state, to_all, to_one, turn_fault, unless, up_to}
 pub use Rattle.sim_plain.specs.declared.message.DownOf.TheVariants.{Ask, Command, Notice, Refused, Release, State}
-pub use Rattle.sim_plain.specs.declared.status.Status.{Status, TheVariants.In, TheVariants.Out, TheVariants.Waiting}
+pub use Rattle.sim_plain.specs.declared.{message.DownOf.DownOf, message.PostOf.PostOf, rules.Rules.Rules, status.Status.Status, status.Status.TheVariants.In}
+pub use Rattle.sim_plain.specs.{Messages.Arrival, Messages.Cut, Messages.Heard, Messages.carry_arrival, Messages.carry_down, Messages.sender, Server.waits_for}
+pub use Rattle.sim_plain.specs.{Server.with_status, declared.status.Status.TheVariants.Out, declared.status.Status.TheVariants.Waiting}
+pub use Rattle.std.proofs.Common.{None, not, Option, option_map, refl, Some, subst, suc, sym, true, true≢false, zero, ℕ, ◌&&◌, ◌++◌, ◌+◌, ◌-◌, ◌<◌, ◌==◌, ◌∙◌}
+pub use Rattle.std.proofs.Common.{[], ap, append-nil, arith, Bool, false, filter, if◌then◌else◌, inl, inr, is_none, is_some, List, map, min, nat_le, nat_lt}
+pub use Rattle.std.proofs.lemmas.Bool.{and_parts, cases_eq, cases_lt, cond-false, cond-true, eq-eqb, eqb-true, ne_eqb}
+pub use Rattle.std.proofs.{Common.◌∷◌, Common.◌≡◌, Common.◌≤◌, Common.◌⊎◌, lemmas.List.Elements.filter_map-append}
+pub use Rattle.std.specs.{List.cons_option, Prelude.filter_map}

@@ -1,13 +1,15 @@
 -- A session's server is what its arrivals make it, and its notices are theirs.
-use Rattle.sim_plain_session.proofs.Common.{Heard, heard, hears, is_client, Joining, joins, leave_events, leaves, may_bend, may_order, may_play, may_tell_done}
-use Rattle.sim_plain_session.proofs.Common.{append_assoc, bends, client_of, Command, Cut, Down, Event, events, events_after, events_by, fall_events, falls}
-use Rattle.sim_plain_session.proofs.Common.{noticed, notices_are, notices_given, notices_in, NoticesAreOfArrivals, Off, On, opened, orders, Past, Phase, played}
-use Rattle.sim_plain_session.proofs.Common.{plays, rise_events, rises, row_of, rules_of, Server, server_after, ServerIsAfterArrivals, Session, session, Setup}
-use Rattle.sim_plain_session.proofs.Common.{state_of, Step, stepped, stepped_by, sym, Up, ◌∙◌}
-use Rattle.sim_plain_session.proofs.Common.{◌≡◌, ℕ, Bool, true, false, List, [], ◌∷◌, ◌++◌, map, ℤ, if◌then◌else◌, refl, Acted, after_steps, ap, append-nil}
 use Rattle.sim_base.specs.declared.step.Event.TheVariants as event
 use Rattle.sim_base.specs.declared.step.Step.TheVariants as step
 use Rattle.sim_plain.specs.declared.message.DownOf.TheVariants as down
+use Rattle.sim_plain.proofs.Calm.{put_same}
+use Rattle.sim_plain_session.proofs.Common.{Acted, bends, Event, falls, false, Heard, heard, hears, joins, Phase, played, plays, posts, rises, row_of, Server}
+use Rattle.sim_plain_session.proofs.Common.{Arrival, Command, events, Joining, leaves, noticed, opened, orders, Session, session, spelled, state_of, stepped, ℕ}
+use Rattle.sim_plain_session.proofs.Common.{Bool, Down, List, map, Off, On, Past, refl, Rules, Setup, Step, sym, true, Up, ℤ, ◌++◌, ◌∙◌, ◌∷◌, ◌≡◌}
+use Rattle.sim_plain_session.proofs.Common.{BytesGoUp, carry_up, client_of, downs_of, events_by, is_client, may_bend, may_order, may_play, rules_of, stepped_by}
+use Rattle.sim_plain_session.proofs.Common.{[], carry_arrival, if◌then◌else◌, NoticesAreOfArrivals, ServerHearsBytes, ServerIsAfterArrivals, ServerIsAfterBytes}
+use Rattle.sim_plain_session.proofs.Common.{after_steps, append_assoc, BytesGoDown, Cut, events_after, leave_events, may_tell_done, notices_given, server_after}
+use Rattle.sim_plain_session.proofs.Common.{ap, append-nil, carry_down, fall_events, heard_carry, map-append, notices_are, notices_in, posts_carry, rise_events}
 
 -- the server is the one after the arrivals
 abbrev Arrived : Setup → ℕ → Session → Type 0
@@ -177,3 +179,28 @@ notices_after setup active s (x ∷ xs) h =
 pub notices_are_of_arrivals : NoticesAreOfArrivals
 notices_are_of_arrivals setup active steps =
     sym (notices_after setup active (opened setup active) steps refl) ∙ notices_are (rules_of setup) active (session setup active steps).arrivals
+
+-- A session in bytes.
+
+server_after-carried : {A B : Type 0} (f : A → B) (rules : Rules) (active : ℕ) (h : List (Arrival A))
+    → server_after rules active (map (carry_arrival f) h) ≡ server_after rules active h
+server_after-carried f rules active [] = refl
+server_after-carried f rules active (a ∷ h) =
+    heard_carry f rules (server_after rules active (map (carry_arrival f) h)) a ∙ ap (λ (s : Server). heard rules s a) (server_after-carried f rules active h)
+
+pub server_hears_bytes : ServerHearsBytes
+server_hears_bytes setup s a = sym (heard_carry (spelled setup) (rules_of setup) s.server a)
+
+pub server_is_after_bytes : ServerIsAfterBytes
+server_is_after_bytes setup active steps =
+    server_is_after_arrivals setup active steps ∙ sym (server_after-carried (spelled setup) (rules_of setup) active (session setup active steps).arrivals)
+
+pub bytes_go_down : BytesGoDown
+bytes_go_down setup s a c =
+    map-append (carry_down (spelled setup)) (s.downs c) (posts (rules_of setup) s.server a c)
+    ∙ ap (λ l. downs_of setup s c ++ l) (sym (posts_carry (spelled setup) (rules_of setup) s.server a c))
+
+pub bytes_go_up : BytesGoUp
+bytes_go_up setup s c acted =
+    ap (λ (l : List Up). map (carry_up (spelled setup)) l) (put_same c (s.ups c ++ acted.says) s.ups) ∙ map-append (carry_up (spelled setup)) (s.ups c)
+    acted.says

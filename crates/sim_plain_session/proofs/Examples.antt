@@ -1,11 +1,13 @@
 -- Sessions, computed step by step.
-use Rattle.sim_plain_session.proofs.Common.{Off, On, order, Past, Phase, PlayerCommand, Point, quick, Resign, session, session_events, Setup, setup_of, Step}
-use Rattle.sim_plain_session.proofs.Common.{Stop, Turn, Walk, walker}
-use Rattle.sim_plain_session.proofs.Common.{◌≡◌, ℕ, zero, suc, ◌+◌, ◌*◌, List, [], ◌∷◌, ◌++◌, length, pos, refl, after, digest, events, first, Joining, no_id}
 use Rattle.sim_base.specs.declared.step.Event.TheVariants as event
 use Rattle.sim_base.specs.declared.step.Step.TheVariants as step
 use Rattle.sim_plain.specs.declared.message.DownOf.TheVariants as down
 use Rattle.sim_plain.specs.declared.message.UpOf.TheVariants as up
+use Rattle.sim_plain_session.proofs.Common.{[], ap, Off, On, pos, Row, Stop, suc, sym, true, Turn, Walk, zero, ℤ, ◌*◌, ◌++◌, ◌+◌, ◌==◌, ◌∙◌, ◌∷◌, ◌≡◌}
+use Rattle.sim_plain_session.proofs.Common.{after, bent, Bool, false, first, List, md5, no_id, order, Past, Phase, Point, quick, refl, Setup, Some, State, Step}
+use Rattle.sim_plain_session.proofs.Common.{after_counts_turns, BendsAreHidden, if◌then◌else◌, OthersAreQuick, PlayerCommand, position_bytes, session_events, ℕ}
+use Rattle.sim_plain_session.proofs.Common.{bent_seat, clock_bytes, cond-false, cond-true, digest_of, FullIsDigest, is_full_turn, map, position_part, rows_with}
+use Rattle.sim_plain_session.proofs.Common.{digest, events, Joining, length, may_bend, Resign, row_of, section, session, setup_of, state_of, walker, with_row}
 
 -- the point half a metre behind these metres
 abbrev pub half : ℕ → ℕ → Point
@@ -161,3 +163,39 @@ again_events = refl
 
 again_downs : (session three 2 again).downs 3 ≡ down.Release 2 ∷ []
 again_downs = refl
+
+-- What a report shows of its client, by the turn.
+
+pub full_is_digest : FullIsDigest
+full_is_digest setup seat full =
+    cond-true _ (digest_of setup seat) (quick (state_of setup seat)) (ap is_full_turn (after_counts_turns setup seat.past) ∙ full)
+
+pub others_are_quick : OthersAreQuick
+others_are_quick setup seat other =
+    cond-false _ (digest_of setup seat) (quick (state_of setup seat)) (ap is_full_turn (after_counts_turns setup seat.past) ∙ other)
+
+-- rows stand where they stood
+places_stay : (id : ℕ) (health : ℤ) (rows : List Row)
+    → rows_with position_part (map (λ (row : Row). if row.id == id then record row { health = Some health } else row) rows) ≡ rows_with position_part rows
+places_stay id health [] = refl
+places_stay id health (row ∷ rows) = by (row.id == id) (ap (λ (l : List (ℕ × Point)). (row.id, row.at) ∷ l) (places_stay id health rows))
+  where
+    others : List Row
+    others = map (λ (row : Row). if row.id == id then record row { health = Some health } else row) rows
+
+    by : (b : Bool) → (row.id, row.at) ∷ rows_with position_part others ≡ rows_with position_part (row ∷ rows)
+        → rows_with position_part ((if b then record row { health = Some health } else row) ∷ others) ≡ rows_with position_part (row ∷ rows)
+    by true same = same
+    by false same = same
+
+quick_bent : (setup : Setup) (state : State) (id : ℕ) (health : ℤ) → quick (bent setup state id health) ≡ quick state
+unfolding quick
+quick_bent setup state id health = by (may_bend setup health (row_of state id))
+  where
+    by : (b : Bool) → quick (if b then with_row id (λ (row : Row). record row { health = Some health }) state else state) ≡ quick state
+    by true = ap (λ (l : List (ℕ × Point)). md5 (clock_bytes state ++ section 2 position_bytes l)) (places_stay id health state.rows)
+    by false = refl
+
+pub bends_are_hidden : BendsAreHidden
+bends_are_hidden setup seat id health other =
+    others_are_quick setup (bent_seat id health seat) other ∙ quick_bent setup (state_of setup seat) id health ∙ sym (others_are_quick setup seat other)

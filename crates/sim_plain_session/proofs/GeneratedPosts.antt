@@ -1,9 +1,29 @@
 -- Generated sessions, as they come out of an independent program: three clients, delay 1 and 4 turns, where the health of a post is bent.
-use Rattle.sim_plain_session.proofs.{Common.u16_bytes, Common.u32_bytes, Common.u64_bytes, Common.Waiting, Common.walker, Left.left}
-use Rattle.sim_plain_session.proofs.Common.{i32_bytes, In, md5, mid, Out, post, quick, Resign, rounds, session, session_events, Setup, setup_of, Step, Stop}
-use Rattle.sim_plain_session.proofs.Common.{◌≡◌, ℕ, List, [], ◌∷◌, pos, refl, at_metre, block_words, compress, Delete, digest, digest_bytes, first, hash_after}
 use Rattle.sim_base.specs.declared.step.Event.TheVariants as event
 use Rattle.sim_base.specs.declared.step.Step.TheVariants as step
+use Rattle.sim_plain_session.proofs.Common.{Status, Step, Stop, u16_bytes, u32_bytes, u64_bytes, up_to, Waiting, walker, ℕ, ◌∷◌, ◌≡◌}
+use Rattle.sim_plain_session.proofs.Common.{[], at_metre, block_words, compress, Delete, digest, digest_bytes, first, hash_after, i32_bytes, In, length, List}
+use Rattle.sim_plain_session.proofs.Common.{map, md5, mid, Out, pos, post, quick, refl, Resign, rounds, Session, session, session_events, Setup, setup_of}
+
+-- What a session leaves behind, in numbers.
+
+-- what clients are to the server, the released turns, how many commands are kept by turn, and how many messages lie in the pipes by client
+pub record Left : Type 0 where
+  pub statuses : List Status
+  pub released : ℕ
+  pub kept : List ℕ
+  pub ups : List ℕ
+  pub downs : List ℕ
+
+abbrev pub left : Setup → Session → Left
+left setup s =
+    record {
+      statuses = map s.server.status (up_to setup.players);
+      released = s.server.released;
+      kept = map (λ t. length (s.server.kept t)) (up_to setup.turns);
+      ups = map (λ c. length (s.ups c)) (up_to setup.players);
+      downs = map (λ c. length (s.downs c)) (up_to setup.players);
+    }
 
 abbrev match : Setup
 match =

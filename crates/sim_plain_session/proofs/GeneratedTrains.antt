@@ -1,9 +1,9 @@
 -- Generated sessions, as they come out of an independent program: four clients, delay 3 and 8 turns, where barracks train walkers.
-use Rattle.sim_plain_session.proofs.{Common.u16_bytes, Common.u32_bytes, Common.u64_bytes, Common.Waiting, Common.walker, Left.left}
-use Rattle.sim_plain_session.proofs.Common.{i32_bytes, In, md5, mid, Out, quick, Resign, rounds, session, session_events, Setup, setup_of, Step, Stop, Train}
-use Rattle.sim_plain_session.proofs.Common.{◌≡◌, ℕ, List, [], ◌∷◌, pos, refl, barracks, block_words, compress, Delete, digest, digest_bytes, first, hash_after}
 use Rattle.sim_base.specs.declared.step.Event.TheVariants as event
 use Rattle.sim_base.specs.declared.step.Step.TheVariants as step
+use Rattle.sim_plain_session.proofs.Common.{Out, pos, quick, refl, Resign, rounds, session, session_events, Setup, setup_of, Step, Stop, Train, u16_bytes}
+use Rattle.sim_plain_session.proofs.Common.{[], barracks, block_words, compress, Delete, digest, digest_bytes, first, hash_after, i32_bytes, In, List, md5, mid}
+use Rattle.sim_plain_session.proofs.{Common.Waiting, Common.u32_bytes, Common.u64_bytes, Common.walker, Common.ℕ, Common.◌∷◌, Common.◌≡◌, GeneratedPosts.left}
 
 abbrev match : Setup
 match =

@@ -1,15 +1,10 @@
 pub mod Common
 pub mod GoingOn
 pub mod Arrived
-pub mod Shown
 pub mod Enabling
 pub mod PlayerLemmas
-pub mod Hiding
-pub mod InBytes
 pub mod Examples
-pub mod BentExample
 pub mod WrongPrints
-pub mod Left
 pub mod GeneratedPosts
 pub mod GeneratedGuards
 pub mod GeneratedTrains

@@ -1,8 +1,8 @@
 -- A client with a state goes on standing for one with a past.
-use Rattle.sim_plain_session.proofs.Common.{State, subst, sym, turn, turns_in, ◌∙◌}
-use Rattle.sim_plain_session.proofs.Common.{bent, cases_eq, digest, inl, inr, LearningStands, mark, PlayerCommand, PlayingStands, put, SameMark, SameTurn}
-use Rattle.sim_plain_session.proofs.Common.{◌≡◌, ℕ, suc, ◌<◌, ◌⊎◌, List, [], ◌∷◌, ◌++◌, refl, after_counts_turns, ap, arith, BeginningStands, BendingStands}
-use Rattle.sim_plain.proofs.Statuses.{put_other, put_same}
+use Rattle.sim_plain.proofs.Calm.{put_other, put_same}
+use Rattle.sim_plain_session.proofs.Common.{List, mark, PlayerCommand, PlayingStands, put, refl, SameMark, SameTurn, State, subst, suc, sym, turn, turns_in, ℕ}
+use Rattle.sim_plain_session.proofs.Common.{[], after_counts_turns, ap, arith, BeginningStands, BendingStands, bent, cases_eq, digest, inl, inr, LearningStands}
+use Rattle.sim_plain_session.proofs.Common.{◌++◌, ◌<◌, ◌∙◌, ◌∷◌, ◌≡◌, ◌⊎◌}
 
 pub same_turn : SameTurn
 same_turn setup player seat s =

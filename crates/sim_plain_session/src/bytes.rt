@@ -1,6 +1,6 @@
 //! A session in bytes.
 
-ghost use Rattle.sim_plain_session.specs.Bytes.{BytesGoDown, BytesGoUp, ServerHearsBytes, ServerIsAfterBytes};
+ghost use Rattle.sim_plain_session.specs.Sessions.{BytesGoDown, BytesGoUp, ServerHearsBytes, ServerIsAfterBytes};
 
 /// With the bytes of states in its messages a session is the same: what arrives in bytes makes the same server, and what
 /// is said goes behind what lies in the pipes.

@@ -1,7 +1,7 @@
 //! What a session prints.
 
-ghost use Rattle.sim_plain_session.specs.{Enabled.EventsAreOfSteps, Enabled.StepsHaveEvents, Laws.StartsAreShown};
-ghost use Rattle.sim_plain_session.specs.Laws.{EventsAreInOrder, EventsAreShown, EventsGoOn, NoticesAreOfArrivals, ServerIsAfterArrivals, SessionGoesOn};
+ghost use Rattle.sim_plain_session.specs.Sessions.{EventsAreInOrder, EventsAreOfSteps, EventsAreShown, EventsGoOn, NoticesAreOfArrivals, ServerIsAfterArrivals};
+ghost use Rattle.sim_plain_session.specs.Sessions.{SessionGoesOn, StartsAreShown, StepsHaveEvents};
 
 /// The server of a session is the one after all arrivals, and the notices that are printed are those of them: one, in
 /// order, for each accepted report that differs from the first of its turn.

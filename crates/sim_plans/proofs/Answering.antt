@@ -1,16 +1,17 @@
 -- What is answered over the facts of a state is what is answered over its rows.
-use Rattle.{sim_system.specs.Facts.origin, sim_system.specs.Facts.vision_of, std.proofs.lemmas.Bool.eqb-false, std.proofs.lemmas.List.Sums.sum_by-cons}
-use Rattle.std.specs.{List.list_all, List.list_any, Prelude.slice_index, Prelude.count_by}
-use Rattle.sim_base.specs.{Filters.is_near, Filters.is_open, Filters.rect_covers, Filters.within, declared.place.Cell.Cell, declared.place.Rect.Rect}
-use Rattle.sim_base.specs.{Least.least_of, WayOf.way_of}
-use Rattle.sim_base.specs.{Places.cells_of, Places.centre_of, Places.covers, Places.is_rect_inside, Places.square, Rows.in_mask, Rows.rect_of_row, Rows.size_of}
-use Rattle.sim_plans.{proofs.FactLists.fact_with-facts, proofs.FactLists.facts, proofs.FactLists.part, proofs.FactLists.part-id, specs.FactLaws.AnswersAgree}
-use Rattle.sim_plans.proofs.SceneCommon.{Option, option_map, option_and_then, refl, ap, apart, arith, Arms, arms_of, Census, cons_option, eqb-true, Fact, fact_of}
-use Rattle.sim_plans.proofs.SceneCommon.{facts_of, Ground, id_of, id_of_fact, Kind, part_for, Point, Range, Row, row_of, Setup, State, target_of, Watch, ◌∙◌}
-use Rattle.sim_plans.proofs.SceneCommon.{◌≡◌, ℕ, Bool, true, false, cond, not, ◌&&◌, ◌||◌, List, [], ◌∷◌, map, ℤ, is_some, ◌==◌, MatchOption, Some, None, filter}
-use Rattle.sim_system.specs.Answers.{is_open_among, seen_among, seen_from, seen_with, way_told, within_among}
-use Rattle.sim_system.specs.declared.ask.Answer.TheVariants.{Found, Many, Number, Place, Truth}
 use Rattle.sim_system.specs.declared.ask.Ask.TheVariants as ask
+use Rattle.sim_base.specs.declared.{place.Cell.Cell, place.Rect.Rect, setup.Land.Land}
+use Rattle.sim_base.specs.{Commands.is_near, Commands.is_open, Commands.rect_covers, Commands.within, Places.cells_of, Places.centre_of, Places.covers}
+use Rattle.sim_base.specs.{Places.is_rect_inside, Places.square, Rows.in_mask, Rows.rect_of_row, Rows.size_of, Ways.least_of, Ways.way_of}
+use Rattle.sim_plans.proofs.FactLists.{[], ap, apart, arith, Arms, arms_of, Bool, Census, cond, cons_option, eqb-true, Fact, fact_of, fact_with-facts, facts}
+use Rattle.sim_plans.proofs.FactLists.{facts_of, false, filter, Ground, id_of, id_of_fact, is_some, IsLooselyValid, IsSome, Kind, List, map, MatchOption, None}
+use Rattle.sim_plans.proofs.FactLists.{not, Option, option_and_then, option_map, part, part-id, part_for, Point, Range, refl, Row, row_of, Setup, Some, State}
+use Rattle.sim_plans.proofs.FactLists.{subst, sym, target_of, true, Watch, ℕ, ℤ, ◌&&◌, ◌==◌, ◌||◌, ◌∙◌, ◌∷◌, ◌≡◌}
+use Rattle.sim_system.specs.Meanings.{answer, answer_over, AskFits, is_open_among, IsAnswer, IsFed, kind_for, MayAnswer, MayAsk, Meaning, seen_among, seen_from}
+use Rattle.sim_system.specs.declared.ask.Answer.{Answer, TheVariants.Found, TheVariants.Many, TheVariants.Number, TheVariants.Place, TheVariants.Truth}
+use Rattle.sim_system.specs.{Meanings.seen_with, Meanings.way_told, Meanings.within_among, Notes.origin, Notes.vision_of, declared.ask.Ask.Ask}
+use Rattle.std.specs.{List.list_all, List.list_any, Prelude.Err, Prelude.IfOk, Prelude.Ok, Prelude.Result, Prelude.count_by, Prelude.slice_index}
+use Rattle.{sim_plans.specs.FactLaws.AnswersAgree, std.proofs.lemmas.Bool.eqb-false, std.proofs.lemmas.List.Sums.sum_by-cons}
 
 -- ---- one test of facts and of rows
 
@@ -143,3 +144,62 @@ answers_agree setup state (ask.Seen id) up =
     ap Many (seen_same setup state (row_of state id))
 answers_agree setup state (ask.Watchers id) up = ap Many (ids_same Watch setup _ _ (watchers_same setup id) state.rows)
 answers_agree setup state (ask.Count owner) up = ap Number (count_same Census setup _ _ (owner_same setup owner) state.rows)
+
+-- What is asked of a scene that stands may be asked of the right system, and its answer is that over the rows.
+
+-- a row that can attack is kept with a vision
+seen_kept : (setup : Setup) (row : Row) → IsSome (arms_of setup row) → MatchOption (part Range setup row) ⊥ (λ (fact : Fact). IsSome fact.vision)
+seen_kept setup row = by (is_some row.health) (arms_of setup row)
+  where
+    by : (b : Bool) (a : Option Arms) → IsSome a →
+        MatchOption (cond (b || is_some (option_map (λ (arms : Arms). arms.vision) a))
+        (Some (record {
+          id = row.id;
+          at = row.at;
+          owner = row.owner;
+          health = b;
+          vision = option_map (λ (arms : Arms). arms.vision) a;
+          rect = None;
+          target = 0;
+        })) None)
+        ⊥ (λ (fact : Fact). IsSome fact.vision)
+    by b None h = absurd (cc)
+    by true (Some arms) h = refl
+    by false (Some arms) h = refl
+
+seen_fits : (setup : Setup) (o : Option Row) → MatchOption o ⊥ (λ (row : Row). IsSome (arms_of setup row)) → MatchOption (option_and_then (part Range setup) o)
+    ⊥ (λ (fact : Fact). IsSome fact.vision)
+seen_fits setup None h = absurd h
+seen_fits setup (Some row) h = seen_kept setup row h
+
+ask_fits : (setup : Setup) (state : State) (a : Ask) → IsLooselyValid setup state → MayAsk setup state a
+    → AskFits setup.land (facts_of (kind_for a) setup state) a
+ask_fits setup state (ask.Open cell) valid may = may
+ask_fits setup state (ask.Free rect) valid may = may
+ask_fits setup state (ask.Way start goal) valid may = may
+ask_fits setup state (ask.Spot at) valid may = may
+ask_fits setup state (ask.Within at radius mask) valid may = may
+ask_fits setup state (ask.Seen id) valid may =
+    subst (λ (o : Option Fact). MatchOption o ⊥ (λ (fact : Fact). IsSome fact.vision))
+    (sym (fact_with-facts Range setup id state.rows (apart state.rows valid.ascending))) (seen_fits setup (row_of state id) may)
+ask_fits setup state (ask.Watchers id) valid may = may
+ask_fits setup state (ask.Count owner) valid may = may
+
+module _ (setup : Setup) (state : State) (a : Ask) (m : Meaning) (k : Kind) (of_kind : kind_for a ≡ k) (told : IsFed k setup state m) where
+  fed : IsFed (kind_for a) setup state m
+  fed = subst (λ (kind : Kind). IsFed kind setup state m) (sym of_kind) told
+
+  pub may_answer : IsLooselyValid setup state → MayAsk setup state a → MayAnswer m a
+  may_answer valid may =
+      subst (λ (o : Option Land). MatchOption o ⊥ (λ (land : Land). (kind_for a ≡ m.kind) × AskFits land m.facts a)) (sym fed.land)
+      (sym fed.kinds, subst (λ (fs : List Fact). AskFits setup.land fs a) (sym fed.facts) (ask_fits setup state a valid may))
+
+  answer_is : (given : Answer) → IsLooselyValid setup state → IsAnswer m a given → given ≡ answer_over setup state a
+  answer_is given valid says =
+      let over_land : given ≡ answer setup.land m.facts a = subst (λ (o : Option Land). MatchOption o ⊥ (λ (land : Land). given ≡ answer land m.facts a))
+      fed.land says in
+      over_land ∙ ap (λ (fs : List Fact). answer setup.land fs a) fed.facts ∙ answers_agree setup state a valid.ascending
+
+  pub answered : {E : Type 0} (r : Result Answer E) → IsLooselyValid setup state → IfOk r (IsAnswer m a) → IfOk r (λ given. given ≡ answer_over setup state a)
+  answered (Ok given) valid says = answer_is given valid says
+  answered (Err e) valid says = tt

@@ -1,12 +1,16 @@
 -- A change that fits keeps a state loosely valid.
-use Rattle.{sim_plans.specs.PlanLaws.AllFittingKeepLoose, sim_plans.specs.PlanLaws.FittingKeepsLoose, std.proofs.lemmas.Option.slice_get_cases}
-use Rattle.sim_base.specs.Changes.{with_new, with_row}
-use Rattle.sim_laws.proofs.{Removing.removed_is_state, Removing.same_stays, Rows.same_row, Validity.with_new_is_valid}
-use Rattle.sim_plans.proofs.Common.{Fits, found_row, IsInside, IsLooselyValid, IsSetup, IsValidAim, IsValidMotion, IsValidRow, known_template, mapped_is_state}
-use Rattle.sim_plans.proofs.Common.{Option, option_and_then, refl, Aim, apart, applied, arith, Arms, arms_of, Both, both_same, Change, cond_both, eqb-true}
-use Rattle.sim_plans.proofs.Common.{most_of, Motion, OfRow, Point, Row, row_of, Setup, State, Stays, subst, sym, Template, template_of, with_word, ⊎_elim, ◌∙◌}
-use Rattle.sim_plans.proofs.Common.{◌≡◌, ℕ, ◌<◌, ◌≤◌, true, cond, [], ◌∷◌, length, ℤ, pos, ◌≤ℤ◌, is_some, IsSome, ◌==◌, slice_get, MatchOption, Some, None}
 use Rattle.sim_base.specs.declared.change.Change.TheVariants as change
+use Rattle.sim_base.specs.contracts.state.State as state_row
+use Rattle.sim_laws.proofs.{Removing.removed_is_state, Removing.same_stays, Validity.of_has_health, Validity.same_row, Validity.with_new_is_valid}
+use Rattle.sim_plans.proofs.Common.{Fits, found_row, Going, has_health, inl, inr, is_some, IsInside, IsLooselyValid, IsOwnChange, IsPlanOf, IsSetup, IsSome}
+use Rattle.sim_plans.proofs.Common.{IsTrue, IsValidAim, IsValidMotion, IsValidRow, known_template, length, List, mapped_is_state, MatchOption, most_of, Motion}
+use Rattle.sim_plans.proofs.Common.{None, OfRow, Option, option_and_then, Point, pos, refl, Row, row_of, Setup, slice_get, Some, State, Stays, Still, subst}
+use Rattle.sim_plans.proofs.Common.{[], Aim, All, all_at, AllFit, ap, apart, applied, arith, Arms, arms_of, Both, both_same, Change, cond, cond_both, eqb-true}
+use Rattle.sim_plans.proofs.Common.{sym, Template, template_of, true, with_word, ℕ, ℤ, ⊎_elim, ◌<◌, ◌==◌, ◌∙◌, ◌∷◌, ◌≡◌, ◌≢◌, ◌≤ℤ◌, ◌≤◌}
+use Rattle.{sim_base.specs.Commands.with_new, sim_base.specs.Commands.with_row, sim_plans.specs.Plans.AllFittingKeepLoose}
+use Rattle.{sim_plans.specs.Plans.FittingKeepsLoose, std.proofs.Props.props, std.proofs.lemmas.Option.slice_get_cases, std.specs.Prelude.◌⊎◌}
+use base.Stored.{Coded-set}
+use mathlib.Core.HLevel.{Unit-prop}
 
 module _ (setup : Setup) (state : State) (valid : IsLooselyValid setup state) where
   -- the row that a change names, what is asked of it, and that it is the only one
@@ -145,3 +149,76 @@ pub all_fitting_keep_loose : AllFittingKeepLoose
 all_fitting_keep_loose setup state [] limits valid fit = valid
 all_fitting_keep_loose setup state (c ∷ changes) limits valid fit =
     all_fitting_keep_loose setup (applied setup state c) changes limits (fitting_keeps setup state valid limits c fit.0) fit.1
+
+-- That changes fit in order and give a state, and that they are a player's own, has one proof at most. So a struct may keep
+-- these facts.
+
+-- ids begin with 2, so no row has the id that stands for no target
+none_is_zero : (setup : Setup) (state : State) → IsLooselyValid setup state → has_health state.rows 0 ≡ true → ⊥
+none_is_zero setup state valid h =
+    let (row, has, same, health) = of_has_health state.rows 0 h in
+    let (least, below) = all_at (λ (row : Row). (2 ≤ row.id) × (row.id < state.next)) state.rows row valid.ids has in
+    omega (arith, least, same)
+
+target_prop : (rows : List Row) (id target : ℕ) → (has_health rows 0 ≡ true → ⊥) → IsProp ((target ≡ 0) ⊎ ((target ≢ id) × IsTrue (has_health rows target)))
+target_prop rows id target none (inl p) (inl q) = let one : IsProp (target ≡ 0) = hlevel props in ap inl (one p q)
+target_prop rows id target none (inl p) (inr q) = absurd (none (ap (has_health rows) (sym p) ∙ q.1))
+target_prop rows id target none (inr p) (inl q) = absurd (none (ap (has_health rows) (sym q) ∙ p.1))
+target_prop rows id target none (inr p) (inr q) = let one : IsProp ((target ≢ id) × IsTrue (has_health rows target)) = hlevel props in ap inr (one p q)
+
+aim_prop : (rows : List Row) (id : ℕ) (aim : Aim) (arms : Arms) → (has_health rows 0 ≡ true → ⊥) → IsProp (IsValidAim rows id aim arms)
+aim_prop rows id aim arms none x y =
+    let cooldown_prop : IsProp (aim.cooldown ≤ arms.repeat) = hlevel props in
+    λ i. record {
+      target = target_prop rows id aim.target none x.target y.target i;
+      cooldown = cooldown_prop x.cooldown y.cooldown i;
+    }
+
+motion_prop : (setup : Setup) (motion : Motion) → IsProp (IsValidMotion setup motion)
+motion_prop setup Still = hlevel props
+motion_prop setup (Going goal way whole) = hlevel props
+
+fits_prop : (setup : Setup) (state : State) (c : Change) → (has_health state.rows 0 ≡ true → ⊥) → IsProp (Fits setup state c)
+fits_prop setup state (change.Move id p) none = hlevel props
+fits_prop setup state (change.Motion id motion) none = let one = motion_prop setup motion in hlevel (props, one)
+fits_prop setup state (change.Attack id aim) none = let one = λ (arms : Arms). aim_prop state.rows id aim arms none in hlevel (props, one)
+fits_prop setup state (change.Health id health) none = hlevel props
+fits_prop setup state (change.Owner id owner) none = hlevel props
+fits_prop setup state (change.Remove id) none = hlevel props
+fits_prop setup state (change.Create number p owner) none = hlevel props
+fits_prop setup state (change.Word word) none = hlevel props
+fits_prop setup state change.Tick none = hlevel props
+
+-- a fact beside another, of which the second has one proof where the first holds
+both_prop : {A B : Type 0} → IsProp A → (A → IsProp B) → IsProp (A × B)
+both_prop a b (p, q) (p', q') = λ i. (a p p' i, b p q q' i)
+
+all_fit_prop : (setup : Setup) (state : State) (changes : List Change) → IsSetup setup → IsLooselyValid setup state → IsProp (AllFit setup state changes)
+all_fit_prop setup state [] limits valid = Unit-prop
+all_fit_prop setup state (c ∷ changes) limits valid =
+    both_prop (fits_prop setup state c (none_is_zero setup state valid))
+    (λ fits. all_fit_prop setup (applied setup state c) changes limits (fitting_keeps_loose setup state c limits valid fits))
+
+own_prop : (state : State) (player : ℕ) (c : Change) → IsProp (IsOwnChange state player c)
+own_prop state player (change.Move id p) = hlevel props
+own_prop state player (change.Motion id motion) = hlevel props
+own_prop state player (change.Attack id aim) = hlevel props
+own_prop state player (change.Health id health) = hlevel props
+own_prop state player (change.Owner id owner) = hlevel props
+own_prop state player (change.Remove id) = hlevel props
+own_prop state player (change.Create number p owner) = hlevel props
+own_prop state player (change.Word word) = hlevel props
+own_prop state player change.Tick = hlevel props
+
+-- a plan of a state that is loosely valid
+pub plan_prop : (setup : Setup) (state : State) (changes : List Change) (after : State) → IsSetup setup → IsLooselyValid setup state
+    → IsProp (IsPlanOf setup state changes after)
+plan_prop setup state changes after limits valid x y =
+    λ i. record {
+      fit = all_fit_prop setup state changes limits valid x.fit y.fit i;
+      give = Coded-set state_row.the_row.coded _ _ x.give y.give i;
+    }
+
+-- changes that are a player's own
+pub all_own_prop : (state : State) (player : ℕ) (changes : List Change) → IsProp (All (IsOwnChange state player) changes)
+all_own_prop state player changes = hlevel (props, own_prop)

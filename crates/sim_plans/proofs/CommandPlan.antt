@@ -1,20 +1,70 @@
 -- The plan of a command: its changes fit and give the command, and each names a row of the commander or makes one for him.
-use Rattle.std.{proofs.lemmas.Bool.cases_Bool, proofs.lemmas.Bool.ltb-true, proofs.lemmas.Option.slice_get_within, specs.Prelude.nat_lt}
-use Rattle.sim_base.specs.{Changes.created, Filters.spot, Places.centre_of, declared.command.Command.Command, declared.place.Cell.Cell}
-use Rattle.sim_base.specs.Commands.{commanded_by, has_room, is_enemy, is_ordered, is_placeable, placed_on, sent, set_on, stopped, trained, trains, with_ordered}
-use Rattle.sim_base.specs.declared.command.Command.TheVariants.{Attack, Delete, Place, Resign, Stop, Train, Walk}
-use Rattle.sim_laws.proofs.{Members.Has-of_map, Rows.row_found}
-use Rattle.sim_laws.proofs.Commanding.{enemy_is_target, enemy_row, middle_inside, placeable, spot_on_ground, trained_template}
-use Rattle.sim_plans.proofs.{RemovePlan.remove_plan, RowByRow.row_by_row_to}
-use Rattle.sim_plans.proofs.Common.{All, filter, flat_map, Option, refl, Aim, All-append, All-cons, All-nil, All-weaker, all_at, and_parts, ap, apart, arith}
-use Rattle.sim_plans.proofs.Common.{Change, cond_both, eqb-true, Going, Has, Has-of_filter, id_of, inl, inr, is_inside, IsInside, IsKnownRow, IsLooselyValid}
-use Rattle.sim_plans.proofs.Common.{IsOwnChange, IsPlanOf, IsSetup, IsTarget, IsValidRow, known_row, list_any, Motion, OfRow, Point, Row, row_of, set_by_all}
-use Rattle.sim_plans.proofs.Common.{Setup, size_of, stance_changes, State, subst, Suits, sym, Template, template_of, ⊎_elim, ◌∙◌}
-use Rattle.sim_plans.proofs.Common.{◌≡◌, ℕ, ◌≤◌, Bool, true, false, cond, ◌&&◌, List, [], ◌∷◌, map, length, is_some, ◌==◌, slice_get, MatchOption, Some, None}
-use Rattle.sim_plans.proofs.Suiting.{motion_suits, one_suits, stance_changes-set, stance_changes_suit, stand_changes-set, stand_changes_suit}
-use Rattle.sim_plans.specs.{CommandPlans.stop_changes, CommandPlans.train_changes, PlanLaws.CommandIsOwn, PlanLaws.CommandIsPlanned}
-use Rattle.sim_plans.specs.CommandPlans.{command_plan_by, ordered_changes, place_changes, sent_changes, sent_changes_by, set_on_changes, set_on_changes_by}
 use Rattle.sim_base.specs.declared.change.Change.TheVariants as change
+use Rattle.sim_base.specs.Commands.{commanded, commanded_by, created, has_room, is_enemy, is_ordered, is_placeable, placed_on, removed, sent, set_on, spot}
+use Rattle.sim_base.specs.declared.command.Command.TheVariants.{Attack, Delete, Place, Resign, Stop, Train, Walk}
+use Rattle.sim_base.specs.declared.{change.Change.TheVariants.Tick, command.Command.Command, command.PlayerCommand.PlayerCommand, place.Cell.Cell}
+use Rattle.sim_base.specs.{Commands.stopped, Commands.trained, Commands.trains, Commands.with_ordered, Places.centre_of, Turn.is_spent, Turn.ticked}
+use Rattle.sim_laws.proofs.Commanding.{enemy_is_target, enemy_row, middle_inside, moved_is_state, placeable, spot_on_ground, trained_template}
+use Rattle.sim_laws.proofs.{Hitting.hit_is_state, Neighbours.Has-map, Removing.removed-ids, Removing.removed_all, Validity.Has-filter, Validity.row_found}
+use Rattle.sim_laws.proofs.{Neighbours.Has-of_map, Removing.aimed_is_state, Turning.command_keeps_loose, Turning.turn_is_counted, Validity.valid_is_loose}
+use Rattle.sim_plans.proofs.Common.{Apart, apart, applied, applied_all, arith, Bool, Change, cond, cond_both, eq-eqb, eqb-true, false, filter, find, flat_map}
+use Rattle.sim_plans.proofs.Common.{Going, gone, gone_plan, Has, Has-of_filter, hit, hit_plan, id_of, inl, inr, is_inside, is_some, IsInside, IsKnownRow}
+use Rattle.sim_plans.proofs.Common.{IsLooselyValid, IsOwnChange, IsPlanOf, IsSetup, IsStrictlyIncreasing, IsTarget, IsValidRow, known_row, length, List}
+use Rattle.sim_plans.proofs.Common.{[], Aim, aim_plan, aimed, All, All-append, All-cons, All-head, All-nil, All-tail, All-weaker, all_at, AllFit, and_parts, ap}
+use Rattle.sim_plans.proofs.Common.{list_any, map, MatchOption, Motion, move_plan, moved, ne_eqb, None, not, OfRow, Option, Point, refl, Row, row_of}
+use Rattle.sim_plans.proofs.Common.{set_by_all, Setup, size_of, slice_get, Some, stance_changes, State, subst, Suits, sym, Template, template_of, true, ℕ}
+use Rattle.sim_plans.proofs.Suiting.{stance_changes-set, stance_changes_suit, stand_changes-set, stand_changes_suit}
+use Rattle.sim_plans.proofs.{AimPlan.aim_plan_is, Common.⊎_elim, Common.◌&&◌, Common.◌==◌, Common.◌∙◌, Common.◌∷◌, Common.◌≡◌, Common.◌≤◌}
+use Rattle.sim_plans.proofs.{MovePlan.move_plan_is, RowByRow.hit_plan_is, RowByRow.plan_then, RowByRow.row_by_row_to, Suiting.motion_suits, Suiting.one_suits}
+use Rattle.sim_plans.specs.Plans.{aim_on, command_plan, command_plan_by, CommandIsOwn, CommandIsPlanned, gone_on, hit_on, move_on, ordered_changes, orders_plan}
+use Rattle.sim_plans.specs.Plans.{place_changes, sent_changes, sent_changes_by, set_on_changes, set_on_changes_by, stop_changes, then_plan, train_changes}
+use Rattle.std.proofs.{Common.fold, Common.◌+◌, lemmas.Bool.cases_Bool, lemmas.Bool.ltb-true, lemmas.List.Folds.fold-map, lemmas.Option.slice_get_within}
+use Rattle.{sim_laws.specs.TurnLaws.IsOrderOf, sim_plans.specs.Plans.TurnIsPlanned, std.specs.Prelude.nat_lt}
+
+-- Rows are removed one after another: each is still alive when it is its turn.
+
+-- an id among those of the rows is found
+alive : (rows : List Row) (id : ℕ) → Has (map id_of rows) id → is_some (find (λ (r : Row). r.id == id) rows) ≡ true
+alive [] id h = absurd h
+alive (q ∷ rows) id h = by (q.id == id) refl h (alive rows id)
+  where
+    by : (b : Bool) → (q.id == id) ≡ b → Has (map id_of (q ∷ rows)) id → (Has (map id_of rows) id → is_some (find (λ (r : Row). r.id == id) rows) ≡ true)
+        → is_some (cond b (Some q) (find (λ (r : Row). r.id == id) rows)) ≡ true
+    by true e m rest = refl
+    by false e (inl s) rest = let same : (q.id == id) ≡ true = eq-eqb q.id id s in absurd (cc)
+    by false e (inr m) rest = rest m
+
+apart-filter : (p : Row → Bool) (rows : List Row) → Apart rows → Apart (filter p rows)
+apart-filter p [] h = tt
+apart-filter p (row ∷ rows) h = by (p row) (apart-filter p rows h.1)
+  where
+    by : (b : Bool) → Apart (filter p rows) → Apart (cond b (row ∷ filter p rows) (filter p rows))
+    by true rest = ((λ q m. let (k, passes) = Has-of_filter p rows q m in h.0 q k), rest)
+    by false rest = rest
+
+removals_fit : (setup : Setup) (qs : List Row) → Apart qs → (state : State) → ((q : Row) → Has qs q → Has (map id_of state.rows) q.id)
+    → AllFit setup state (map (λ id. change.Remove id) (map id_of qs))
+removals_fit setup [] h state there = tt
+removals_fit setup (q ∷ qs) h state there = (
+  alive state.rows q.id (there q (inl refl)),
+  removals_fit setup qs h.1 (removed q.id state)
+      (λ r m. let below = h.0 r m in
+      subst (λ (ids : List ℕ). Has ids r.id) (sym (removed-ids state q.id))
+      (Has-filter (λ (n : ℕ). not (n == q.id)) (map id_of state.rows) r.id (there r (inr m)) (ap not (ne_eqb r.id q.id (λ e. omega (arith, below)))))),
+)
+
+-- the rows that pass a test are removed
+pub remove_plan : (setup : Setup) (state : State) (p : Row → Bool) → IsStrictlyIncreasing (map id_of state.rows) →
+    IsPlanOf setup state (map (λ id. change.Remove id) (map id_of (filter p state.rows))) (removed_all state (map id_of (filter p state.rows)))
+remove_plan setup state p ascending =
+    record {
+      fit = removals_fit setup (filter p state.rows) (apart-filter p state.rows (apart state.rows ascending)) state
+          (λ q m. let (k, passes) = Has-of_filter p state.rows q m in Has-map id_of state.rows q k);
+      give = fold-map (applied setup) (λ (id : ℕ). change.Remove id) state (map id_of (filter p state.rows));
+    }
+
+pub gone_plan_is : (setup : Setup) (state : State) → IsLooselyValid setup state → IsPlanOf setup state (gone_plan state) (gone state)
+gone_plan_is setup state valid = remove_plan setup state (λ (row : Row). is_spent row.health) valid.ascending
 
 All-flat_map : {X Y : Type 0} (P : Y → Type 0) (f : X → List Y) (xs : List X) → ((x : X) → Has xs x → All P (f x)) → All P (flat_map f xs)
 All-flat_map P f [] each = All-nil P
@@ -224,3 +274,52 @@ command_is_planned setup state order limits player valid = (planned setup limits
 
 pub command_is_own : CommandIsOwn
 command_is_own setup state order limits player valid = (planned setup limits state valid order.player player.1 order.command).own
+
+-- The changes of a turn fit in order and give it.
+
+-- a plan, and a plan for the state to which it leads
+then_is_plan : (setup : Setup) (state middle after : State) (first : List Change) (second : State → List Change) → IsPlanOf setup state first middle
+    → IsPlanOf setup middle (second middle) after →
+    IsPlanOf setup state (then_plan setup state first second) after
+then_is_plan setup state middle after first second p q =
+    plan_then setup state middle after first (second (applied_all setup state first)) p
+    (subst (λ (s : State). IsPlanOf setup middle (second s) after) (sym p.give) q)
+
+orders_are_planned : (setup : Setup) → IsSetup setup → (orders : List PlayerCommand) → All (IsOrderOf setup) orders → (state : State)
+    → IsLooselyValid setup state →
+    IsPlanOf setup state (orders_plan setup state orders) (fold (commanded setup) state orders)
+orders_are_planned setup limits [] of_players state valid = record { fit = tt; give = refl }
+orders_are_planned setup limits (order ∷ orders) of_players state valid =
+    let player = All-head (IsOrderOf setup) order orders of_players in
+    then_is_plan setup state (commanded setup state order) (fold (commanded setup) (commanded setup state order) orders) (command_plan setup state order)
+    (λ s. orders_plan setup s orders)
+    (command_is_planned setup state order limits player valid)
+    (orders_are_planned setup limits orders (All-tail (IsOrderOf setup) order orders of_players) (commanded setup state order)
+    (command_keeps_loose setup state order limits player valid))
+
+orders_keep_loose : (setup : Setup) → IsSetup setup → (orders : List PlayerCommand) → All (IsOrderOf setup) orders → (state : State)
+    → IsLooselyValid setup state → IsLooselyValid setup (fold (commanded setup) state orders)
+orders_keep_loose setup limits [] of_players state valid = valid
+orders_keep_loose setup limits (order ∷ orders) of_players state valid =
+    orders_keep_loose setup limits orders (All-tail (IsOrderOf setup) order orders of_players) (commanded setup state order)
+    (command_keeps_loose setup state order limits (All-head (IsOrderOf setup) order orders of_players) valid)
+
+pub turn_is_planned : TurnIsPlanned
+turn_is_planned setup state orders limits of_players valid below =
+    let loose = valid_is_loose setup state valid in
+    let s1 = fold (commanded setup) state orders in
+    let v1 = orders_keep_loose setup limits orders of_players state loose in
+    let s2 = aimed setup s1 in
+    let v2 = aimed_is_state 0 setup s1 v1 in
+    let s3 = moved setup s2 in
+    let v3 = moved_is_state 0 setup s2 v2 in
+    let s4 = hit setup s3 in
+    let v4 = hit_is_state setup s3 v3 in
+    let s5 = gone s4 in
+    let counted : s5.turn + 1 ≡ state.turn + 1 = turn_is_counted setup state orders in
+    let tick : IsPlanOf setup s5 (Tick ∷ []) (ticked s5) = record { fit = (omega (arith, counted, below), tt); give = refl } in
+    then_is_plan setup state s1 (ticked s5) (orders_plan setup state orders) (aim_on setup) (orders_are_planned setup limits orders of_players state loose)
+    (then_is_plan setup s1 s2 (ticked s5) (aim_plan setup s1) (move_on setup) (aim_plan_is setup s1 v1)
+    (then_is_plan setup s2 s3 (ticked s5) (move_plan setup s2) (hit_on setup) (move_plan_is setup s2 v2)
+    (then_is_plan setup s3 s4 (ticked s5) (hit_plan setup s3) gone_on (hit_plan_is setup s3 v3)
+    (plan_then setup s4 s5 (ticked s5) (gone_plan s4) (Tick ∷ []) (gone_plan_is setup s4 v4) tick))))

@@ -1,10 +1,25 @@
 -- The facts of a list of rows: where a row is changed, leaves or comes, and where a fact is found.
-use Rattle.{sim_system.specs.Facts.kept_of, sim_system.specs.Notes.placed, sim_system.specs.Notes.with_changed, std.proofs.Common.◌+◌, std.specs.Prelude.nat_lt}
-use Rattle.sim_laws.proofs.Members.{Has-of_filter_map, Has-of_map}
-use Rattle.sim_plans.proofs.SceneCommon.{with_kept, without, ◌∙◌, fact_with, Has, id_of, inl, inr, kept, Kind, ne_eqb, Row, Setup, subst, sym, option_map}
-use Rattle.sim_plans.proofs.SceneCommon.{option_and_then, refl, ap, Apart, arith, cond_both, cons_option, eq-eqb, eqb-true, Fact, fact_of, ◌≡◌, ℕ, ◌<◌, ◌≤◌, Bool}
-use Rattle.sim_plans.proofs.SceneCommon.{true, false, cond, not, List, [], ◌∷◌, ◌++◌, map, length, ◌==◌, Some, None, filter, find, Option}
-use Rattle.sim_system.proofs.Facts.{kept_id, placed_behind}
+pub use Rattle.sim_base.specs.declared.{place.Point.Point, setup.Setup.Setup, state.Aim.Aim, state.Motion.Motion, state.Row.Row, state.State.State}
+pub use Rattle.sim_base.specs.{Commands.released, Commands.removed, Commands.watchers, Commands.with_row, Limits.IsInside, Limits.IsKnownRow}
+pub use Rattle.sim_base.specs.{Limits.IsLooselyValid, Limits.IsSetup, Limits.IsValidAim, Rows.arms_of, Rows.id_of, Rows.row_of, Rows.target_of}
+pub use Rattle.sim_laws.proofs.{Commanding.known_template, Neighbours.Has, Validity.Apart, Validity.all_at, Validity.apart, Validity.found_row}
+pub use Rattle.sim_plans.specs.{FactLaws.AllNotesFit, Releases.release_all, RowChanges.Fits, RowChanges.OfRow}
+pub use Rattle.sim_system.specs.Notes.{aim_of, fact_of, fact_with, facts_of, id_of_fact, IsInRange, keeps, kept, noted, part_for, with_kept, without}
+pub use Rattle.sim_system.specs.declared.kind.Kind.{Kind, TheVariants.Census, TheVariants.Ground, TheVariants.Range, TheVariants.Watch}
+pub use Rattle.sim_system.specs.declared.note.Note.{Note, TheVariants.Aimed, TheVariants.Born, TheVariants.Gone, TheVariants.Moved, TheVariants.Owned}
+pub use Rattle.std.proofs.Common.{[], ap, arith, Bool, cond, false, filter, find, fold, inl, inr, length, List, map, MatchOption, None, not, Option, refl, Some}
+pub use Rattle.std.proofs.Common.{subst, sym, true, ℕ, ℤ, ⊎_elim, ◌++◌, ◌<◌, ◌∙◌, ◌∷◌, ◌≡◌, ◌≤◌}
+pub use Rattle.std.specs.Prelude.{is_some, IsSome, option_and_then, option_map, unwrap_or, ◌&&◌, ◌==◌, ◌||◌}
+pub use Rattle.std.{proofs.lemmas.Bool.ne_eqb, specs.List.cons_option}
+pub use Rattle.{sim_base.specs.declared.template.Arms.Arms, sim_base.specs.declared.template.Template.Template, sim_laws.proofs.Validity.known_row}
+pub use Rattle.{sim_system.specs.declared.fact.Fact.Fact, std.proofs.lemmas.Bool.cond_both, std.proofs.lemmas.Bool.eq-eqb, std.proofs.lemmas.Bool.eqb-true}
+use Rattle.std.proofs.{Common.append_assoc, Common.◌+◌, lemmas.Bool.cond-true, lemmas.List.map-append}
+use Rattle.{sim_base.specs.Limits.IsValidMotion, sim_base.specs.Rows.template_of, sim_laws.proofs.Neighbours.Has-of_map, sim_system.proofs.Facts.placed_behind}
+use Rattle.{sim_laws.proofs.Neighbours.Has-append_cases, sim_laws.proofs.Neighbours.Has-of_filter_map, sim_plans.specs.FactLaws.UnheardChangesNothing}
+use Rattle.{sim_laws.proofs.Validity.both_same, sim_laws.proofs.Validity.same_row, sim_system.proofs.Facts.kept_id, sim_system.specs.Notes.with_changed}
+use Rattle.{sim_system.specs.Notes.kept_of, sim_system.specs.Notes.placed, std.specs.Prelude.IsNone, std.specs.Prelude.nat_lt}
+
+-- The words that the proofs here name again and again, passed on from one place. Declares nothing.
 
 module _ (kind : Kind) (setup : Setup) where
   -- what is kept of a row, and of several
@@ -223,3 +238,173 @@ module _ (kind : Kind) (setup : Setup) where
       by false (Some f) e k rest =
           let same : (f.id == id) ≡ false = ap (λ (n : ℕ). n == id) (part-id row f k) ∙ e in
           rw (e, k, same) rest
+
+-- What each kind keeps of a row that was changed.
+
+-- ---- the row that a change names
+
+-- where something holds of the row with an id, there is one, and it holds of it
+pub named_row : (state : State) (id : ℕ) (P : Row → Type 0) → OfRow state id P → (row : Row) × (row_of state id ≡ Some row) × P row
+named_row state id P h = by (row_of state id) refl h
+  where
+    by : (o : Option Row) → row_of state id ≡ o → MatchOption o ⊥ P → (row : Row) × (row_of state id ≡ Some row) × P row
+    by None e h = absurd h
+    by (Some row) e h = (row, e, h)
+
+-- it holds of each row that has the id
+pub of_each_named : (setup : Setup) (state : State) (id : ℕ) (P : Row → Type 0) → IsLooselyValid setup state → OfRow state id P → (row : Row)
+    → Has state.rows row → row.id ≡ id → P row
+of_each_named setup state id P valid fit row h e =
+    let (named, found, holds) = named_row state id P fit in
+    let (m, is_id) = found_row state id named found in
+    subst P (same_row state.rows named row (apart state.rows valid.ascending) m h (is_id ∙ sym e)) holds
+
+module _ (setup : Setup) where
+  -- ---- a move
+
+  none_is : {X : Type 0} (o : Option X) → IsNone o → o ≡ None
+  none_is None h = refl
+  none_is (Some x) h = absurd (cc)
+
+  -- a row that can move is no obstruction
+  pub no_obstruction : (state : State) (row : Row) → IsSetup setup → IsLooselyValid setup state → Has state.rows row → IsSome row.motion
+      → option_and_then (λ (t : Template). t.obstruct) (template_of setup row) ≡ None
+  no_obstruction state row limits valid h moves =
+      let (t, e, v) = known_row 0 setup state.rows row (all_at (IsKnownRow 0 setup state.rows) state.rows row valid.rows h) in
+      let has_speed : is_some t.speed ≡ true = sym (both_same (λ (m : Motion) (s : ℤ). IsValidMotion setup m) row.motion t.speed v.motion) ∙ moves in
+      ap (option_and_then (λ (t : Template). t.obstruct)) e ∙ none_is t.obstruct ((known_template setup row.template t limits e).moves_or_obstructs has_speed)
+
+  pub part-moved_ground : (p : Point) (row : Row) → option_and_then (λ (t : Template). t.obstruct) (template_of setup row) ≡ None
+      → part Ground setup (record row { at = p }) ≡ part Ground setup row
+  part-moved_ground p row none = rw none refl
+
+  pub part-moved_range : (p : Point) (row : Row) → part Range setup (record row { at = p }) ≡ option_map (λ (f : Fact). record f { at = p })
+      (part Range setup row)
+  part-moved_range p row =
+      elim (keeps Range (fact_of setup row)) as (λ b. cond b (Some (part_for Range (fact_of setup (record row { at = p })))) None ≡ option_map
+      (λ (f : Fact). record f { at = p }) (cond b (Some (part_for Range (fact_of setup row))) None)) [
+        | true ↦ refl
+        | false ↦ refl
+      ]
+
+  -- ---- a change of owner
+
+  pub part-owned_range : (owner : ℕ) (row : Row) → part Range setup (record row { owner = owner }) ≡ option_map (λ (f : Fact). record f { owner = owner })
+      (part Range setup row)
+  part-owned_range owner row =
+      elim (keeps Range (fact_of setup row)) as (λ b. cond b (Some (part_for Range (fact_of setup (record row { owner = owner })))) None ≡ option_map
+      (λ (f : Fact). record f { owner = owner }) (cond b (Some (part_for Range (fact_of setup row))) None)) [
+        | true ↦ refl
+        | false ↦ refl
+      ]
+
+  -- ---- health
+
+  pub part-hurt_range : (health : ℤ) (row : Row) → IsSome row.health → part Range setup (record row { health = Some health }) ≡ part Range setup row
+  part-hurt_range health row has = ap (λ (b : Bool). kept Range (record (fact_of setup row) { health = b })) (sym has)
+
+  -- ---- an aim
+
+  pub part-aimed_watch : (id target : ℕ) (row : Row) → row.id ≡ id → target_of row ≡ target → part Watch setup row ≡ kept Watch (aim_of id target)
+  part-aimed_watch id target row id_is target_is = ap (λ (i : ℕ). kept Watch (aim_of i (target_of row))) id_is ∙ ap (λ (t : ℕ). kept Watch (aim_of id t))
+      target_is
+
+-- A note outside the table of subscriptions changes nothing.
+
+pub unheard : UnheardChangesNothing
+unheard kind facts (Born fact) e = absurd (cc)
+unheard kind facts (Gone fact) e = absurd (cc)
+unheard Ground facts (Moved id from to) e = refl
+unheard Range facts (Moved id from to) e = absurd (cc)
+unheard Watch facts (Moved id from to) e = refl
+unheard Census facts (Moved id from to) e = refl
+unheard Ground facts (Owned id from to) e = refl
+unheard Range facts (Owned id from to) e = absurd (cc)
+unheard Watch facts (Owned id from to) e = refl
+unheard Census facts (Owned id from to) e = absurd (cc)
+unheard Ground facts (Aimed id from to) e = refl
+unheard Range facts (Aimed id from to) e = refl
+unheard Watch facts (Aimed id from to) e = absurd (cc)
+unheard Census facts (Aimed id from to) e = refl
+
+-- A row is removed: those who aimed at it are let go one by one, and then it leaves.
+
+-- what becomes of a row that stays when another is removed
+abbrev pub let_go : ℕ → Row → Row
+let_go id row = cond (target_of row == id) (released row) row
+
+module _ (setup : Setup) (state : State) where
+  abbrev pub with_rows : List Row → State
+  with_rows rows = record state { rows = rows }
+
+  abbrev Elsewhere : List Row → ℕ → Type 0
+  Elsewhere rows id = (r : Row) → Has rows r → r.id ≡ id → ⊥
+
+  row_released : (done rest : List Row) (row : Row) → Elsewhere done row.id → Elsewhere rest row.id → map (changing Census setup row.id released)
+      (done ++ row ∷ rest) ≡ done ++ released row ∷ rest
+  row_released done rest row before after =
+      let g : Row → Row = changing Census setup row.id released in
+      map-append g done (row ∷ rest) ∙ ap (λ (rs : List Row). rs ++ g row ∷ map g rest) (rows_stay Census setup row.id released done before)
+      ∙ ap (λ (r : Row). done ++ r ∷ map g rest) (cond-true (row.id == row.id) (released row) row (eq-eqb row.id row.id refl))
+      ∙ ap (λ (rs : List Row). done ++ released row ∷ rs) (rows_stay Census setup row.id released rest after)
+
+  -- the rows that pass a test are let go
+  released_from : (test : Row → Bool) (done rest : List Row) → ((q r : Row) → Has done q → Has rest r → q.id < r.id) → Apart rest →
+      release_all (map id_of (filter test rest)) (with_rows (done ++ rest)) ≡ with_rows (done ++ map (λ (r : Row). cond (test r) (released r) r) rest)
+  released_from test done [] before apart = refl
+  released_from test done (row ∷ rest) before apart =
+      by (test row) refl (λ new same. released_from test (done ++ new ∷ []) rest
+      (λ q r h k. ⊎_elim (λ (m : Has done q). before q r m (inr k)) (λ (m : Has (new ∷ []) q). last new same q r m k)
+      (Has-append_cases done (new ∷ []) q h)) apart.1)
+    where
+      last : (new : Row) → new.id ≡ row.id → (q r : Row) → Has (new ∷ []) q → Has rest r → q.id < r.id
+      last new same q r (inl e) k = omega (arith, ap id_of e, same, apart.0 r k)
+      last new same q r (inr m) k = absurd m
+
+      Later : Type 0
+      Later = (new : Row) → new.id ≡ row.id → release_all (map id_of (filter test rest)) (with_rows ((done ++ new ∷ []) ++ rest)) ≡ with_rows
+          ((done ++ new ∷ []) ++ map (λ (r : Row). cond (test r) (released r) r) rest)
+
+      next : Later → (new : Row) → new.id ≡ row.id → release_all (map id_of (filter test rest)) (with_rows (done ++ new ∷ rest)) ≡ with_rows
+          (done ++ new ∷ map (λ (r : Row). cond (test r) (released r) r) rest)
+      next later new same =
+          ap (λ (rows : List Row). release_all (map id_of (filter test rest)) (with_rows rows)) (sym (append_assoc done (new ∷ []) rest))
+          ∙ later new same
+          ∙ ap with_rows (append_assoc done (new ∷ []) (map (λ (r : Row). cond (test r) (released r) r) rest))
+
+      by : (b : Bool) → test row ≡ b → Later → release_all (map id_of (filter test (row ∷ rest))) (with_rows (done ++ row ∷ rest)) ≡ with_rows
+          (done ++ map (λ (r : Row). cond (test r) (released r) r) (row ∷ rest))
+      by true e later =
+          rw e (
+          ap (λ (rows : List Row). release_all (map id_of (filter test rest)) (with_rows rows))
+          (row_released done rest row (λ q h s. omega (arith, before q row h (inl refl), s)) (λ r h s. omega (arith, apart.0 r h, s)))
+          ∙ next later (released row) refl
+          )
+      by false e later = rw e (next later row refl)
+
+  -- letting go those who aim at it, and then leaving it out, is to remove it
+  filter-let_go : (id : ℕ) (rows : List Row) → map (let_go id) (filter (λ (row : Row). not (row.id == id)) rows) ≡ filter (λ (row : Row). not (row.id == id))
+      (map (let_go id) rows)
+  filter-let_go id [] = refl
+  filter-let_go id (row ∷ rows) = by (row.id == id) refl (target_of row == id) refl (filter-let_go id rows)
+    where
+      by : (b : Bool) → (row.id == id) ≡ b → (c : Bool) → (target_of row == id) ≡ c → map (let_go id) (filter (λ (row : Row). not (row.id == id)) rows) ≡ filter
+          (λ (row : Row). not (row.id == id)) (map (let_go id) rows) →
+          map (let_go id) (cond (not (row.id == id)) (row ∷ filter (λ (row : Row). not (row.id == id)) rows) (filter (λ (row : Row). not (row.id == id)) rows))
+          ≡ cond (not ((let_go id row).id == id)) (let_go id row ∷ filter (λ (row : Row). not (row.id == id)) (map (let_go id) rows))
+          (filter (λ (row : Row). not (row.id == id)) (map (let_go id) rows))
+      by true e true f rest = rw (f, e) rest
+      by true e false f rest = rw (f, e) rest
+      by false e true f rest = rw (f, e, f) (ap (λ (rs : List Row). released row ∷ rs) rest)
+      by false e false f rest = rw (f, e, f) (ap (λ (rs : List Row). row ∷ rs) rest)
+
+  pub let_go_all : (id : ℕ) → (id ≡ 0 → ⊥) → Apart state.rows → release_all (watchers state id) state ≡ with_rows (map (let_go id) state.rows)
+  let_go_all id some apart =
+      ap (λ (b : Bool). release_all (map id_of (filter (λ (row : Row). not b && target_of row == id) state.rows)) state) (ne_eqb id 0 some)
+      ∙ released_from (λ (row : Row). target_of row == id) [] state.rows (λ q r h k. absurd h) apart
+
+  pub removed_is : (id : ℕ) → (id ≡ 0 → ⊥) → Apart state.rows → removed id state ≡ record (release_all (watchers state id) state)
+      { rows = filter (λ (row : Row). not (row.id == id)) (release_all (watchers state id) state).rows }
+  removed_is id some apart =
+      ap with_rows (filter-let_go id state.rows) ∙
+      sym (ap (λ (s : State). record s { rows = filter (λ (row : Row). not (row.id == id)) s.rows }) (let_go_all id some apart))

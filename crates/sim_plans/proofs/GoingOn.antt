@@ -1,9 +1,9 @@
 -- A row that goes on to the same goal with as many waypoints as before goes on as it went.
-use Rattle.std.proofs.lemmas.Bool.{and_from, both_ways, Decides.Decides-int_eq}
-use Rattle.sim_base.specs.{Move.after_walk, Move.headed, Move.toward, Move.Walked, Move.walked, Numbers.root}
-use Rattle.sim_plans.proofs.Common.{Row, same_point, Setup, square, State, Still, sym, way_of, ◌∙◌}
-use Rattle.sim_plans.proofs.Common.{and_parts, ap, arith, Arms, chasing, eq-eqb, eqb-true, field_of, goes_on, Going, int_eq, is_near, Motion, moved_by, Point}
-use Rattle.sim_plans.proofs.Common.{◌≡◌, ℕ, suc, ◌-◌, ◌≤◌, Bool, true, false, cond, List, [], ◌∷◌, length, nat_le, ◌==◌, Some, None, Option, refl, along_found}
+use Rattle.sim_base.specs.{Places.root, Turn.Walked, Turn.after_walk, Turn.headed, Turn.toward, Turn.walked}
+use Rattle.sim_plans.proofs.Common.{Still, suc, sym, true, way_of, ℕ, ◌-◌, ◌==◌, ◌∙◌, ◌∷◌, ◌≡◌, ◌≤◌}
+use Rattle.sim_plans.proofs.Common.{[], along_found, and_parts, ap, arith, Arms, Bool, chasing, cond, eq-eqb, eqb-true, false, field_of, goes_on, Going, int_eq}
+use Rattle.sim_plans.proofs.Common.{is_near, length, List, Motion, moved_by, nat_le, None, Option, Point, refl, Row, same_point, Setup, Some, square, State}
+use Rattle.std.proofs.lemmas.Bool.{Decides.Decides-int_eq, and_from, both_ways}
 
 -- no more waypoints are left than there were
 rest_is_short : (p : Point) (budget : ℕ) (way : List Point) → length (walked p budget way).way ≤ length way

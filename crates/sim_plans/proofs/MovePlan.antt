@@ -1,11 +1,11 @@
 -- The plan of the phase in which rows move: its changes fit and give the phase.
-use Rattle.{sim_base.specs.Move.moved_row, sim_base.specs.Rows.speed_of, sim_plans.specs.Plans.move_changes_by, sim_plans.specs.Plans.move_changes_of}
-use Rattle.{sim_laws.proofs.Moving.moved_row_stays, std.proofs.Common.◌/◌}
+use Rattle.sim_plans.proofs.Common.{Option, Plans, Point, refl, Row, row_of, set_by_all, Setup, Some, State, Stays, step_changes, Still, subst, Suits, sym}
+use Rattle.sim_plans.proofs.Common.{Template, target_of, template_of, true, unsigned_abs, way_of, ℕ, ℤ, ◌∙◌, ◌∷◌, ◌≡◌}
+use Rattle.sim_plans.proofs.Common.{[], All, All-nil, all_at, along_found, ap, arms_of, Bool, Both, both_same, chasing, false, field_of, goes_on, Going}
+use Rattle.sim_plans.proofs.Common.{is_some, IsKnownRow, IsLooselyValid, IsValidMotion, IsValidRow, known_row, List, Motion, move_plan, moved, moved_by, None}
 use Rattle.sim_plans.proofs.{GoingOn.goes_on_same, RowByRow.row_by_row_to, Suiting.step_changes-set, Suiting.step_changes_suit}
-use Rattle.sim_plans.proofs.Common.{IsValidRow, known_row, Motion, move_plan, moved, moved_by, Plans, Point, Row, row_of, set_by_all, Setup, State, Stays}
-use Rattle.sim_plans.proofs.Common.{along_found, ap, arms_of, Both, both_same, chasing, field_of, goes_on, Going, IsKnownRow, IsLooselyValid, IsValidMotion}
-use Rattle.sim_plans.proofs.Common.{step_changes, Still, subst, Suits, sym, target_of, Template, template_of, way_of, ◌∙◌}
-use Rattle.sim_plans.proofs.Common.{◌≡◌, ℕ, Bool, true, false, List, [], ◌∷◌, ℤ, is_some, unsigned_abs, Some, None, All, Option, refl, All-nil, all_at}
+use Rattle.{sim_base.specs.Rows.speed_of, sim_base.specs.Turn.moved_row, sim_laws.proofs.Commanding.moved_row_stays, sim_plans.specs.Plans.move_changes_by}
+use Rattle.{sim_plans.specs.Plans.move_changes_of, std.proofs.Common.◌/◌}
 
 -- a row that moves changes in its place and its motion alone
 abbrev OnlyMoves : Row → Row → Type 0

@@ -1,9 +1,9 @@
 -- What the laws of facts, notes and answers say.
-use Rattle.{sim_base.specs.Limits.IsSetup, sim_base.specs.Rows.id_of, sim_base.specs.Validity.IsLooselyValid, sim_plans.specs.Fits.Fits}
-use Rattle.std.specs.{List.Sorted.IsStrictlyIncreasing, Prelude.◌≡◌, Prelude.false, Prelude.List, Prelude.[], Prelude.◌∷◌, Prelude.map, Prelude.fold}
-use Rattle.sim_base.specs.{Changes.applied, declared.change.Change.Change, declared.setup.Land.Land, declared.setup.Setup.Setup, declared.state.State.State}
-use Rattle.sim_system.specs.{Answers.answer, Answers.answer_over, Answers.kind_for, Notes.noted, Notes.NoteFits, Posts.hears, Posts.posts, Ranges.AreInRange}
-use Rattle.sim_system.specs.{Facts.facts_of, Facts.told_of, declared.ask.Ask.Ask, declared.fact.Fact.Fact, declared.kind.Kind.Kind, declared.note.Note.Note}
+use Rattle.sim_base.specs.{Commands.applied, Limits.IsLooselyValid, Limits.IsSetup, Rows.id_of, declared.change.Change.Change, declared.setup.Land.Land}
+use Rattle.sim_system.specs.{Meanings.answer, Meanings.kind_for, Notes.AreInRange, Notes.NoteFits, Notes.facts_of, Notes.noted, Notes.posts, Notes.told_of}
+use Rattle.sim_system.specs.{Meanings.answer_over, Notes.hears, declared.ask.Ask.Ask, declared.fact.Fact.Fact, declared.kind.Kind.Kind, declared.note.Note.Note}
+use Rattle.std.specs.{List.Sorted.IsStrictlyIncreasing, Prelude.List, Prelude.[], Prelude.false, Prelude.fold, Prelude.map, Prelude.◌∷◌, Prelude.◌≡◌}
+use Rattle.{sim_base.specs.declared.setup.Setup.Setup, sim_base.specs.declared.state.State.State, sim_plans.specs.RowChanges.Fits}
 
 -- the facts of the changed state are the facts after the notes
 abbrev pub ChangeIsNoted : Type 0

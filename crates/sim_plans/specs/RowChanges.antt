@@ -1,7 +1,37 @@
 -- Changes of one row: which it may take beside the others, and what they make of it.
-use Rattle.std.specs.Prelude.{◌≡◌, ◌≤◌, List, pos, ◌≤ℤ◌, IsSome, MatchOption, Some, fold}
-use Rattle.sim_plans.specs.{Common.arms_of, Common.Change, Common.IsInside, Common.IsValidAim, Common.IsValidMotion, Common.Row, Common.Setup, Fits.most_of}
 use Rattle.sim_base.specs.declared.change.Change.TheVariants as change
+use Rattle.sim_plans.specs.Common.{applied, arms_of, Change, IsInside, IsValidAim, IsValidMotion, Row, row_limit, row_of, Setup, State, Template, template_of}
+use Rattle.std.specs.Prelude.{[], fold, IsSome, length, List, MatchOption, Option, option_and_then, pos, Some, ℕ, ℤ, ◌<◌, ◌^◌, ◌∷◌, ◌≡◌, ◌≤ℤ◌, ◌≤◌}
+
+-- Which changes a state may take: the condition of a call that makes one.
+
+-- the greatest health of a row that has health
+abbrev pub most_of : Setup → Row → Option ℤ
+most_of setup row = option_and_then (λ (t : Template). t.health) (template_of setup row)
+
+-- the row with this id is alive, and this holds of it
+abbrev pub OfRow : State → ℕ → (Row → Type 0) → Type 0
+OfRow state id P = MatchOption (row_of state id) ⊥ P
+
+-- the id is alive and has the part that is set, and the value is one that the state may have, where a health may be 0;
+-- only a row with motion moves; a new row needs an id and a place among the rows
+abbrev pub Fits : Setup → State → Change → Type 0
+Fits setup state (change.Move id p) = OfRow state id (λ row. IsSome row.motion × IsInside setup p)
+Fits setup state (change.Motion id motion) = OfRow state id (λ row. IsSome row.motion × IsValidMotion setup motion)
+Fits setup state (change.Attack id aim) = OfRow state id (λ row. IsSome row.attack × MatchOption (arms_of setup row) ⊥ (IsValidAim state.rows id aim))
+Fits setup state (change.Health id health) =
+    OfRow state id (λ row. IsSome row.health × MatchOption (most_of setup row) ⊥ (λ most. (pos 0 ≤ℤ health) × (health ≤ℤ most)))
+Fits setup state (change.Owner id owner) = OfRow state id (λ row. owner ≤ setup.players)
+Fits setup state (change.Remove id) = IsSome (row_of state id)
+Fits setup state (change.Create number p owner) = (number < length setup.templates) × IsInside setup p × (owner ≤ setup.players)
+    × (length state.rows < row_limit) × (state.next < 0x20000000)
+Fits setup state (change.Word word) = word < 2 ^ 48
+Fits setup state change.Tick = state.turn < setup.turns
+
+-- each change fits the state which those before it leave
+abbrev pub AllFit : Setup → State → List Change → Type 0
+AllFit setup state [] = Unit {0}
+AllFit setup state (c ∷ changes) = Fits setup state c × AllFit setup (applied setup state c) changes
 
 -- what a change makes of the row that it names
 abbrev pub set_by : Change → Row → Row

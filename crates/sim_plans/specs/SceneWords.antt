@@ -1,5 +1,5 @@
 -- When a scene stands.
-use Rattle.sim_base.specs.{Limits.IsSetup, Validity.IsLooselyValid, declared.setup.Setup.Setup, declared.state.State.State}
+use Rattle.sim_base.specs.{Limits.IsLooselyValid, Limits.IsSetup, declared.setup.Setup.Setup, declared.state.State.State}
 use Rattle.sim_plans.specs.declared.scene.Scene.{Scene}
 use Rattle.sim_system.specs.{Meanings.AreFed, Meanings.Systems, RigWords.systems_of, declared.system.System.Ghosts}
 

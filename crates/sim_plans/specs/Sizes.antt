@@ -1,6 +1,5 @@
 -- How large a ground is at most.
-use Rattle.std.specs.Prelude.{◌≤◌, ℤ, pos, ◌≤ℤ◌, ◌<ℤ◌}
-use Rattle.sim_plans.specs.Common.{Size}
+use Rattle.{sim_plans.specs.Common.Size, std.specs.Prelude.pos, std.specs.Prelude.ℤ, std.specs.Prelude.◌<ℤ◌, std.specs.Prelude.◌≤ℤ◌, std.specs.Prelude.◌≤◌}
 
 -- a coordinate of the largest ground
 pub record IsCoordinate (raw : ℤ) : Type 0 where

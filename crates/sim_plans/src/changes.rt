@@ -1,6 +1,6 @@
 //! Laws of changes.
 
-ghost use Rattle.sim_plans.specs.PlanLaws.{AllFittingKeepLoose, FittingKeepsLoose, OneAfterAnother, RowByRow};
+ghost use Rattle.sim_plans.specs.Plans.{AllFittingKeepLoose, FittingKeepsLoose, OneAfterAnother, RowByRow};
 
 /// A change that fits keeps a state loosely valid, and so do several that fit in order.
 pub fn a_fitting_change_keeps_a_state()

@@ -1,7 +1,7 @@
 //! A row by its id. Ids ascend, so it is found by binary search; at once where each id from the first row on has a row.
 
 ghost use Rattle.{sim_plans.specs.Found.found, std.specs.List.HoldsAt};
-ghost use Rattle.std.specs.Prelude.{◌≡◌, ◌<◌, map, length, IfSome, IsTrue, MatchOption, Some, None, option_copied};
+ghost use Rattle.std.specs.Prelude.{◌≡◌, ◌<◌, map, length, MatchOption, Some, None, option_copied};
 ghost use Rattle.sim_plans.specs.Common.{id_of, is_going as is_going_by, is_holding as is_holding_by, IsStrictlyIncreasing, row_of, target_of as target_by};
 
 use sim_base::{Motion, Row, State};
@@ -18,53 +18,26 @@ pub fn find_row(state: &State, id: u32) -> Option<&Row>
     }
 }
 
-/// The place of the row with this id, from 0.
+/// The place of the row with this id, from 0. An id below those of all rows is looked for no further, as 0, which stands for nobody: most
+/// rows aim at nobody. Next comes the place that the row has if each id from the first row's on has one.
 pub fn place_of(rows: &[Row], id: u32) -> Option<usize>
     requires { IsStrictlyIncreasing (map id_of rows.now) }
     ensures { MatchOption result (found rows.now id ≡ None) (λ at. (at < length rows.now) × HoldsAt (λ row. found rows.now id ≡ Some row) rows.now at) }
 {
-    if is_below(rows, id) {
-        return None;
-    }
-    match place_by_count(rows, id) {
-        Some(at) => Some(at),
-        None => place_by_search(rows, id),
-    }
-}
-
-// The place that the row has if each id from the first row's on has one.
-fn place_by_count(rows: &[Row], id: u32) -> Option<usize>
-    ensures { IfSome result (λ at. (at < length rows.now) × HoldsAt (λ row. row.id ≡ id) rows.now at) }
-{
     let [first, ..] = rows else {
         return None;
     };
-    let at = id.checked_sub(first.id)? as usize;
-    match rows.get(at) {
-        Some(row) if row.id == id => Some(at),
-        _ => None,
+    if id < first.id {
+        return None;
     }
-}
-
-// The place of the row, by binary search.
-fn place_by_search(rows: &[Row], id: u32) -> Option<usize>
-    requires { IsStrictlyIncreasing (map id_of rows.now) }
-    ensures { MatchOption result (found rows.now id ≡ None) (λ at. (at < length rows.now) × HoldsAt (λ row. found rows.now id ≡ Some row) rows.now at) }
-{
+    let at = (id - first.id) as usize;
+    match rows.get(at) {
+        Some(row) if row.id == id => return Some(at),
+        _ => {}
+    }
     match rows.binary_search_by_key(&id, |row| row.id) {
         Ok(at) => Some(at),
         Err(_) => None,
-    }
-}
-
-// Whether the id is below those of all rows, as 0 is, which stands for nobody: most rows aim at nobody.
-fn is_below(rows: &[Row], id: u32) -> bool
-    requires { IsStrictlyIncreasing (map id_of rows.now) }
-    ensures { IsTrue result → found rows.now id ≡ None }
-{
-    match rows {
-        [first, ..] => id < first.id,
-        [] => true,
     }
 }
 

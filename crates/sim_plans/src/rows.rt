@@ -1,7 +1,7 @@
 //! The changes of one row, added to a list. A part that has its value already is not set again.
 
-ghost use Rattle.std.specs.Prelude.{◌≡◌, ◌++◌, OnOk};
-ghost use Rattle.sim_plans.specs.RowPlans.{halt_changes, stance_changes, stand_changes, target_changes, turn_changes};
+ghost use Rattle.std.specs.Prelude.{OnOk, ◌++◌, ◌≡◌};
+ghost use Rattle.sim_plans.specs.Plans.{halt_changes, stance_changes, stand_changes, target_changes, turn_changes};
 
 use sim_base::{Aim, Change, Changes, Motion, OutOfMemory, Row};
 

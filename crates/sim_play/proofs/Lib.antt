@@ -4,7 +4,5 @@ pub mod PlayLines
 pub mod Playing
 pub mod Starting
 pub mod PlayerLines
-pub mod Later
-pub mod ToldTurns
 pub mod PaidOnes
 pub mod LogTurns

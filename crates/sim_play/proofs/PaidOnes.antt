@@ -1,7 +1,7 @@
 -- One paid turn more of a match: its books, its number and its line.
 use Rattle.sim_play.proofs.Common.{append_assoc, Books, books_after, books_of, digest, Economy, kept_past, orders_at, paid_lines, paid_state}
-use Rattle.sim_play.proofs.Common.{paid_stocks, paid_turn, Setup, State, states_are_after, Stocks, sym, turn_line, turns_in, ◌∙◌, ◌≡◌, ℕ, zero, suc}
-use Rattle.sim_play.proofs.Common.{◌+◌, List, ◌++◌, IfOk, Ok, Err, codes, Result, refl, after_counts_turns, ap, append-nil}
+use Rattle.sim_play.proofs.Common.{paid_turn, Setup, State, states_are_after, Stocks, sym, turn_line, turns_in, ◌∙◌, ◌≡◌, ℕ, zero, suc}
+use Rattle.sim_play.proofs.Common.{List, ◌++◌, codes, refl, after_counts_turns, ap, append-nil}
 
 module _ (setup : Setup) (economy : Economy) where
   kept_turns : (n : ℕ) → turns_in (kept_past setup economy n) ≡ n
@@ -39,9 +39,3 @@ module _ (setup : Setup) (economy : Economy) where
   pub first_line : (old more hash : List ℕ) → more ≡ old ++ turn_line (codes "turn") 0 hash → hash ≡ digest setup (paid_state setup economy 0)
       → more ≡ old ++ paid_lines setup economy 1
   first_line old more hash written is = paid_lines_more 0 old old more hash (sym (append-nil old)) written is
-
--- where all turns were played on a board of the same match
-pub ended_stocks : {E : Type 0} (r : Result Stocks E) (setup same : Setup) (economy : Economy) (state : State) → same ≡ setup
-    → IfOk r (λ stocks. books_of state stocks ≡ books_after same economy same.turns) → IfOk r (λ stocks. stocks ≡ paid_stocks setup economy setup.turns)
-ended_stocks (Err none) setup same economy state e is = tt
-ended_stocks (Ok stocks) setup same economy state e is = ap (λ (books : Books). books.stocks) is ∙ ap (λ (s : Setup). paid_stocks s economy s.turns) e

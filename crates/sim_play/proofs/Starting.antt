@@ -1,6 +1,5 @@
 -- A board that was started stands at turn 0.
-use Rattle.sim_play.proofs.Common.{IsWholeBy, setup_in, state_in, own_turns, play_text, Setup, State, subst, sym, turn_lines, ◌∙◌, ◌≡◌, ℕ, suc, ◌-◌, [], after}
-use Rattle.{sim_board.specs.declared.board.Board.Board, sim_play.specs.Playing.HasBegunBy, sim_system.specs.Meanings.Meaning}
+use Rattle.sim_play.proofs.Common.{own_turns, play_text, Setup, State, subst, sym, turn_lines, ◌∙◌, ◌≡◌, ℕ, suc, ◌-◌, [], after}
 use Rattle.sim_play.proofs.Common.{after_counts_turns, ap, arith, first_state, first_state_is_valid, from, IsSetup, IsValid}
 
 module _ (setup same : Setup) (state : State) (of_same : same ≡ setup) (is : state ≡ first_state setup) where
@@ -29,12 +28,3 @@ module _ (setup same : Setup) (state : State) (of_same : same ≡ setup) (is : s
     where
       turn_less : (n : ℕ) → n - 0 ≡ n
       turn_less n = omega arith
-
--- a board that was started has begun
-pub has_begun : {X : Type 0} {F : X → Type 0} (meaning : (i : X) → F i → Meaning) (board : Board X F) (setup : Setup) → setup_in board ≡ setup
-    → state_in board ≡ first_state setup → IsWholeBy board meaning → IsSetup setup → HasBegunBy meaning board
-has_begun meaning board setup of_same is whole limits = record {
-  whole = whole;
-  valid = started_valid setup (setup_in board) (state_in board) of_same is limits;
-  first = is ∙ ap first_state (sym of_same);
-}

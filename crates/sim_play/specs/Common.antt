@@ -1,14 +1,14 @@
 -- The words of other crates that the files here name again and again, passed on from one place. Declares nothing.
-pub use Rattle.{sim_codec.specs.Loading.StandsFor, sim_laws.specs.CommandLaws.IsOrderOf, sim_replay.specs.declared.log.Log.Log, sim_report.specs.Ways.ways_text}
-pub use Rattle.std.specs.List.{range_with_len}
-pub use Rattle.sim_base.specs.{Limits.IsSetup, Turn.after, Turn.first_state, Turn.from, Turn.orders_at, Turn.own_turns, Turn.Past, Turn.Turn, Validity.IsValid}
 pub use Rattle.sim_base.specs.declared.{command.PlayerCommand.PlayerCommand, setup.Setup.Setup, setup.Timed.Timed, state.State.State}
-pub use Rattle.sim_board.specs.BoardWords.{AreKept, IsWhole, IsWholeBy, setup_in, state_in, systems}
-pub use Rattle.sim_report.specs.{Lines.holding_line, Lines.line_end, Lines.map_line, Lines.spaced_number, Lines.stock_line, Lines.turn_line, Show.show_text}
-pub use Rattle.sim_stock.specs.{Economies.IsEconomy, declared.economy.Economy.Economy, declared.stocks.Stocks.Stocks}
-pub use Rattle.sim_stock.specs.{PaidTurns.books_after, PaidTurns.books_of, PaidTurns.kept_past, PaidTurns.paid_turn, Stocks.amount_of, Stocks.total}
-pub use Rattle.sim_system.specs.{Meanings.AreBuiltOnceAtMost, Meanings.AreFed, Meanings.HaveKinds, RigWords.systems_of}
-pub use Rattle.sim_territory.specs.{Realms.holders_in, Realms.realm_of, Realms.RealmOf, Rooted.AreRooted}
-pub use Rattle.sim_vision.specs.{After.all_seen, After.joined_at, After.vision_after, After.vision_next, After.was_visible, Vision.cells_in, Vision.is_visible}
-pub use Rattle.sim_vision.specs.{Joining.is_set, Keeping.extent_in, Spans.one_if, Told.sight_lines, Told.sight_text, Watching.flag_in}
+pub use Rattle.sim_base.specs.{Limits.IsSetup, Limits.IsValid, Turn.Past, Turn.Turn, Turn.after, Turn.first_state, Turn.from, Turn.orders_at, Turn.own_turns}
+pub use Rattle.sim_board.specs.Boards.{AreKept, IsWhole, IsWholeBy, setup_in, state_in, systems}
+pub use Rattle.sim_report.specs.Lines.{holding_line, line_end, map_line, spaced_number, stock_line, turn_line}
+pub use Rattle.sim_stock.specs.{Economies.IsEconomy, Economies.amount_of, Economies.total, PaidTurns.books_after, PaidTurns.books_of, PaidTurns.kept_past}
+pub use Rattle.sim_vision.specs.{Keeping.extent_in, Told.sight_lines, Told.sight_text, Vision.all_seen, Vision.cells_in, Vision.is_set, Vision.is_visible}
+pub use Rattle.sim_vision.specs.{Vision.joined_at, Vision.vision_after, Vision.vision_next, Vision.was_visible, Watching.flag_in, Watching.one_if}
+pub use Rattle.{sim_codec.specs.Loading.StandsFor, sim_laws.specs.TurnLaws.IsOrderOf, sim_replay.specs.declared.log.Log.Log, sim_report.specs.Show.show_text}
+pub use Rattle.{sim_report.specs.Show.ways_text, sim_stock.specs.PaidTurns.paid_turn, sim_stock.specs.declared.economy.Economy.Economy}
+pub use Rattle.{sim_stock.specs.declared.stocks.Stocks.Stocks, sim_system.specs.Meanings.AreBuiltOnceAtMost, sim_system.specs.Meanings.AreFed}
+pub use Rattle.{sim_system.specs.Meanings.HaveKinds, sim_system.specs.RigWords.systems_of, sim_territory.specs.Holders.AreRooted}
+pub use Rattle.{sim_territory.specs.Realms.RealmOf, sim_territory.specs.Realms.holders_in, sim_territory.specs.Realms.realm_of, std.specs.List.range_with_len}
 unfoldable pub use Rattle.{md5.specs.Md5.md5, sim_base.specs.Spelling.digest}

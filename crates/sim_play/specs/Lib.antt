@@ -2,8 +2,5 @@ pub mod Common
 pub mod Lines
 pub mod Playing
 pub mod Realms
-pub mod Seen
-pub mod States
 pub mod Films
 pub mod Paid
-pub mod Logs

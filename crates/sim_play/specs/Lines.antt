@@ -1,6 +1,7 @@
 -- The lines of a match that is played.
-use Rattle.std.specs.Prelude.{ℕ, zero, suc, ◌+◌, ◌-◌, List, [], ◌++◌, length, codes}
-use Rattle.sim_play.specs.Common.{after, digest, first_state, from, line_end, own_turns, Setup, spaced_number, State, turn_line}
+use Rattle.sim_play.specs.Common.{after, all_seen, digest, extent_in, first_state, flag_in, from, is_set, is_visible, line_end, one_if, own_turns}
+use Rattle.sim_play.specs.Common.{range_with_len, Setup, sight_lines, spaced_number, State, turn_line, was_visible}
+use Rattle.std.specs.Prelude.{[], codes, length, List, map, suc, zero, ℕ, ◌++◌, ◌+◌, ◌-◌, ◌||◌}
 
 -- So many lines from a state on that stands at a turn: the digest of each is that of the turn function, folded from that
 -- state over the match's own turns.
@@ -37,3 +38,29 @@ abbrev pub trial_line : ℕ → ℕ → ℕ → Setup → State → List ℕ
 trial_line seed units turns setup state =
     codes "trial" ++ (spaced_number seed ++ (spaced_number units ++ (spaced_number turns ++
     (codes " alive" ++ (spaced_number (length state.rows) ++ line_end (digest setup state))))))
+
+-- The states of turns of a match.
+
+-- the states of turns 0 to this one
+abbrev pub states_to : Setup → ℕ → List State
+states_to setup turn = map (λ t. after setup (own_turns setup 0 t)) (range_with_len 0 (suc turn))
+
+-- the states of so many turns behind a state
+abbrev pub later_of : Setup → State → ℕ → List State
+later_of setup state n = map (λ k. from setup state (own_turns setup state.turn k)) (range_with_len 1 n)
+
+-- What the players of a match see, and have explored, at a turn of it.
+
+-- a line for each player: the cells that he sees at a turn, and those that were visible in one of the states up to it
+abbrev pub sight_text : Setup → ℕ → List ℕ
+sight_text setup turn = sight_lines setup (is_visible setup (after setup (own_turns setup 0 turn)).rows) (was_visible setup (states_to setup turn))
+
+-- the file of explored cells at a turn
+abbrev pub sight_file : Setup → ℕ → List ℕ
+sight_file setup turn = map one_if (all_seen setup (states_to setup turn))
+
+-- a line for each player at the end of a match, from a stored state on and the explored cells of a file
+abbrev pub resight_text : Setup → State → List ℕ → List ℕ
+resight_text setup state bytes =
+    sight_lines setup (is_visible setup (end_from setup state).rows)
+    (λ player c. flag_in (extent_in setup) (map is_set bytes) player c || was_visible setup (later_of setup state (setup.turns - state.turn)) player c)

@@ -1,7 +1,7 @@
 -- With what a match may be played, and what becomes of the board and the rig that play it: the facts of each call by name. A clause
 -- passes ⟦<dyn System as System>⟧ for `sys`.
 use Rattle.std.specs.Prelude.{◌≡◌, ℕ, ◌≤◌, OnOk, Result}
-use Rattle.sim_play.specs.Common.{AreBuiltOnceAtMost, AreFed, AreKept, first_state, HaveKinds, IsSetup, IsValid, IsWholeBy, Setup, setup_in, State, state_in}
+use Rattle.sim_play.specs.Common.{AreBuiltOnceAtMost, AreFed, AreKept, HaveKinds, IsSetup, IsValid, IsWholeBy, Setup, setup_in, State, state_in}
 use Rattle.{sim_board.specs.declared.board.Board.Board, sim_system.specs.Meanings.Meaning, sim_system.specs.Meanings.Systems}
 use Rattle.sim_system.specs.{RigWords.systems_by, declared.rig.Rig.Rig, declared.system.System.Ghosts}
 
@@ -28,12 +28,6 @@ pub record MayResume (setup : Setup) (state : State) (s : Systems) : Type 0 wher
 pub record MayGoOnBy {X : Type 0} {F : X → Type 0} (meaning : (i : X) → F i → Meaning) (board : Board X F) : Type 0 where
   pub whole : IsWholeBy board meaning
   pub valid : IsValid (setup_in board) (state_in board)
-
--- so may one that has begun, and it stands at the first state of its match
-pub record HasBegunBy {X : Type 0} {F : X → Type 0} (meaning : (i : X) → F i → Meaning) (board : Board X F) : Type 0 where
-  pub whole : IsWholeBy board meaning
-  pub valid : IsValid (setup_in board) (state_in board)
-  pub first : state_in board ≡ first_state (setup_in board)
 
 -- ---- behind
 
@@ -68,9 +62,6 @@ pub record HasPlayedBy {X : Type 0} {F : X → Type 0} {A E : Type 0} (meaning :
 
 abbrev pub MayGoOn : {X : Type 0} {F : X → Type 0} → ((i : X) → Ghosts (F i)) → Board X F → Type 0
 MayGoOn sys board = MayGoOnBy (λ i v. (sys i).meaning v) board
-
-abbrev pub HasBegun : {X : Type 0} {F : X → Type 0} → ((i : X) → Ghosts (F i)) → Board X F → Type 0
-HasBegun sys board = HasBegunBy (λ i v. (sys i).meaning v) board
 
 abbrev pub GoesOnTo : {X : Type 0} {F : X → Type 0} {A E : Type 0} → ((i : X) → Ghosts (F i)) → State → Result A E → Board X F → Board X F → Type 0
 GoesOnTo sys last outcome old new = GoesOnToBy (λ i v. (sys i).meaning v) last outcome old new

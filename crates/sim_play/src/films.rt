@@ -1,9 +1,8 @@
 //! A film of a match: its states, so many turns apart, each with the digest, the rows and their ways. The match is played once.
 
-ghost use Rattle.sim_play.specs.Common.{IsValid, setup_in, systems, systems_of};
-ghost use Rattle.sim_play.specs.Films.{film_text as text_of_film, frame_text, is_told as is_turn_told, last_state, told_frame};
-ghost use Rattle.sim_play.specs.Playing.{ComesTo, GoesOnTo, HasBegun, HasPlayed, MayBegin};
-ghost use Rattle.std.specs.Prelude.{◌++◌, ◌≡◌, ◌≤◌, IfOk, OnOk, string_bytes};
+ghost use Rattle.std.specs.Prelude.{IfOk, OnOk, string_bytes, ◌++◌, ◌≡◌, ◌≤◌};
+ghost use Rattle.sim_play.specs.{Common.IsValid, Common.setup_in, Common.systems, Common.systems_of, Films.film_text as text_of_film};
+ghost use Rattle.sim_play.specs.{Films.is_told as is_turn_told, Films.last_state, Films.told_frame, Playing.ComesTo, Playing.HasPlayed, Playing.MayBegin};
 
 use crate::lines::push_line;
 use sim_base::{OutOfMemory, Setup, State};
@@ -52,22 +51,6 @@ fn start_frames(
     ensures ends { ComesTo ⟦<dyn System as System>⟧ (last_state (setup_in board.old)) result board.old board.new }
 {
     board.start()?;
-    push_frames(alloc, board, every, orders, out)
-}
-
-// Plays a board that was started to the end, and appends a frame of each turn that is told.
-fn push_frames(
-    alloc: Global,
-    board: &mut Board<'_>,
-    every: u32,
-    orders: &OrderTable,
-    out: &mut String,
-) -> Result<(), OutOfMemory>
-    requires begun { HasBegun ⟦<dyn System as System>⟧ board.old }
-    requires every { 1 ≤ every }
-    ensures text { OnOk result (string_bytes out.new ≡ string_bytes out.old ++ text_of_film (setup_in board.old) every) }
-    ensures ends { GoesOnTo ⟦<dyn System as System>⟧ (last_state (setup_in board.old)) result board.old board.new }
-{
     let setup = board.setup();
     push_told(every, setup, board.scene().state, out)?;
     for turn in 0..setup.turns {
@@ -83,11 +66,12 @@ fn push_told(every: u32, setup: &Setup, state: &State, out: &mut String) -> Resu
     requires every { 1 ≤ every }
     ensures { OnOk result (string_bytes out.new ≡ string_bytes out.old ++ told_frame every setup.now state.now) }
 {
-    if is_told(every, setup.turns, state.turn) {
-        push_frame(setup, state, out)
-    } else {
-        Ok(())
+    if !is_told(every, setup.turns, state.turn) {
+        return Ok(());
     }
+    push_line("turn", setup, state, out)?;
+    push_show(setup, state, out)?;
+    push_ways(state, out)
 }
 
 // Whether a turn is told: each that `every` divides, and the last one.
@@ -96,13 +80,4 @@ fn is_told(every: u32, last: u32, turn: u32) -> bool
     ensures { result ≡ is_turn_told every last turn }
 {
     turn % every == 0 || turn == last
-}
-
-fn push_frame(setup: &Setup, state: &State, out: &mut String) -> Result<(), OutOfMemory>
-    requires { IsValid setup.now state.now }
-    ensures { OnOk result (string_bytes out.new ≡ string_bytes out.old ++ frame_text setup.now state.now) }
-{
-    push_line("turn", setup, state, out)?;
-    push_show(setup, state, out)?;
-    push_ways(state, out)
 }

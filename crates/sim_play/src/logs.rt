@@ -1,9 +1,8 @@
 //! A match that is played by the commands of a log, with the digest of the state after each turn.
 
-ghost use Rattle.sim_play.specs.{Common.IsOrderOf, Common.setup_in, Common.systems, Common.systems_of, Films.last_state};
-ghost use Rattle.sim_play.specs.Logs.{digests_after as digests_of_turns, log_after as log_of_turns, match_turns as turns_of_match, state_after};
-ghost use Rattle.sim_play.specs.Playing.{ComesTo, GoesOnTo, HasBegun, HasPlayed, MayBegin};
-ghost use Rattle.std.specs.Prelude.{◌≡◌, ◌≤◌, All, IfOk, length, OnOk};
+ghost use Rattle.std.specs.Prelude.{All, IfOk, length, OnOk, ◌≡◌, ◌≤◌};
+ghost use Rattle.sim_play.specs.Films.{digests_after as digests_of_turns, last_state, log_after as log_of_turns, match_turns as turns_of_match, state_after};
+ghost use Rattle.sim_play.specs.{Common.IsOrderOf, Common.setup_in, Common.systems, Common.systems_of, Playing.ComesTo, Playing.HasPlayed, Playing.MayBegin};
 
 use crate::own::match_turns;
 use sim_base::{OutOfMemory, Setup};
@@ -15,30 +14,7 @@ use sim_system::{Rig, System};
 use sim_turn::turn;
 use std::alloc::Global;
 
-// Plays a board from its first state on by these commands, and gives the digest of each state.
-fn play_turns(
-    alloc: Global,
-    board: &mut Board<'_>,
-    orders: &OrderTable,
-    turns: &[Orders],
-) -> Result<Digests, OutOfMemory>
-    requires begun { HasBegun ⟦<dyn System as System>⟧ board.old }
-    requires few { length turns.now ≤ (setup_in board.old).turns }
-    requires players { All (All (IsOrderOf (setup_in board.old))) turns.now }
-    ensures digests { IfOk result (λ digests. digests ≡ digests_of_turns (setup_in board.old) turns.now) }
-    ensures ends { GoesOnTo ⟦<dyn System as System>⟧ (state_after (setup_in board.old) turns.now) result board.old board.new }
-{
-    let setup = board.setup();
-    let mut digests = Digests::new(alloc);
-    digests.push(digest(setup, board.scene().state))?;
-    for commands in turns {
-        turn(alloc, board, orders, commands.as_slice())?;
-        digests.push(digest(setup, board.scene().state))?;
-    }
-    Ok(digests)
-}
-
-// Starts a board, and plays it by these commands.
+// Starts a board, plays it by these commands, and gives the digest of each state.
 fn start_turns(
     alloc: Global,
     board: &mut Board<'_>,
@@ -52,7 +28,14 @@ fn start_turns(
     ensures ends { ComesTo ⟦<dyn System as System>⟧ (state_after (setup_in board.old) turns.now) result board.old board.new }
 {
     board.start()?;
-    play_turns(alloc, board, orders, turns)
+    let setup = board.setup();
+    let mut digests = Digests::new(alloc);
+    digests.push(digest(setup, board.scene().state))?;
+    for commands in turns {
+        turn(alloc, board, orders, commands.as_slice())?;
+        digests.push(digest(setup, board.scene().state))?;
+    }
+    Ok(digests)
 }
 
 /// The digests of the states of a match after the first 0, 1, 2 .. and all of these turns, which are not more than the match

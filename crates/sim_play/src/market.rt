@@ -1,10 +1,9 @@
 //! The paid turns of a match, with a line for each.
 
-ghost use Rattle.sim_play.specs.Common.{books_after, books_of, IsEconomy, orders_at, paid_turn as paid_turn_by, setup_in, state_in};
-ghost use Rattle.sim_play.specs.{Common.systems, Common.total, Paid.paid_lines, Paid.paid_state, Paid.paid_stocks};
-ghost use Rattle.sim_play.specs.Playing.{ComesTo, GoesOnTo, HasBegun, MayBegin, MayGoOn};
-ghost use Rattle.sim_stock.specs.Trading.{PaysTo};
-ghost use Rattle.std.specs.Prelude.{◌++◌, ◌+◌, ◌<◌, ◌^◌, ◌≡◌, IfOk, OnOk, string_bytes, suc};
+ghost use Rattle.std.specs.Prelude.{IfOk, OnOk, string_bytes, suc, ◌++◌, ◌+◌, ◌<◌, ◌^◌, ◌≡◌};
+ghost use Rattle.sim_play.specs.Common.{IsEconomy, books_of, orders_at, paid_turn as paid_turn_by, setup_in, state_in, systems, total};
+ghost use Rattle.sim_play.specs.{Paid.paid_lines, Paid.paid_state, Paid.paid_stocks, Playing.ComesTo, Playing.MayBegin, Playing.MayGoOn};
+ghost use Rattle.sim_stock.specs.PaidTurns.{PaysTo};
 
 use crate::due::commands_of;
 use crate::lines::push_line;
@@ -29,24 +28,6 @@ pub fn start_lines(
         board.new }
 {
     board.start()?;
-    push_turns(market, board, out)
-}
-
-// Plays a board that has just started to the last turn of its match, and appends a line for each turn.
-fn push_turns(
-    market: &Market<'_>,
-    board: &mut Board<'_>,
-    out: &mut String,
-) -> Result<Stocks, OutOfMemory>
-    requires begun { HasBegun ⟦<dyn System as System>⟧ board.old }
-    requires economy { IsEconomy (setup_in board.old) market.now.economy.now }
-    ensures books { IfOk result (λ stocks. books_of (state_in board.new) stocks
-        ≡ books_after (setup_in board.old) market.now.economy.now (setup_in board.old).turns) }
-    ensures text { OnOk result (string_bytes out.new ≡ string_bytes out.old
-        ++ paid_lines (setup_in board.old) market.now.economy.now (suc (setup_in board.old).turns)) }
-    ensures ends { GoesOnTo ⟦<dyn System as System>⟧ (paid_state (setup_in board.old) market.now.economy.now (setup_in board.old).turns) result board.old
-        board.new }
-{
     let setup = board.setup();
     let mut stocks = market.economy.start;
     push_line("turn", setup, board.scene().state, out)?;

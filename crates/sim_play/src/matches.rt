@@ -1,6 +1,6 @@
 //! A match that is played with the systems of a rig, which is handed back.
 
-ghost use Rattle.std.specs.Prelude.{◌≡◌, ◌≤◌, ◌++◌, IfOk, OnOk, string_bytes};
+ghost use Rattle.std.specs.Prelude.{◌≡◌, ◌++◌, IfOk, OnOk, string_bytes};
 ghost use Rattle.sim_play.specs.{Common.systems, Common.systems_of, Lines.end_from, Lines.play_text as text_of_play, Lines.resume_text as text_of_resume};
 ghost use Rattle.sim_play.specs.Common.{after, first_state, IsValid, own_turns, setup_in, state_in};
 ghost use Rattle.sim_play.specs.Playing.{ComesTo, HasPlayed, MayBegin, MayReach, MayResume};
@@ -87,8 +87,8 @@ pub fn resume_text(
     }
 }
 
-/// Starts a board, and plays it to a turn.
-pub fn start_until(
+// Starts a board, and plays it to a turn.
+fn start_until(
     alloc: Global,
     board: &mut Board<'_>,
     orders: &OrderTable,

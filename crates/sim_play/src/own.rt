@@ -1,7 +1,7 @@
 //! The turns of a match file as a log has them: a list of commands for each.
 
-ghost use Rattle.std.specs.Prelude.{◌≡◌, IfOk};
-ghost use Rattle.sim_play.specs.{Common.IsSetup, Logs.match_turns as turns_of_match};
+ghost use Rattle.std.specs.Prelude.{IfOk, ◌≡◌};
+ghost use Rattle.sim_play.specs.{Common.IsSetup, Films.match_turns as turns_of_match};
 
 use crate::due::commands_of;
 use sim_base::{Items, OutOfMemory, Setup};

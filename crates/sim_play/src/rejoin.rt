@@ -1,10 +1,10 @@
 //! A match that a second client joins late: the first plays all of it, and gives the bytes of its state at a turn; the second
 //! loads them, and plays on with systems of its own.
 
-ghost use Rattle.std.specs.Prelude.{◌≡◌, suc, ◌-◌, ◌≤◌, ◌++◌, IfOk, OnOk, string_bytes};
+ghost use Rattle.std.specs.Prelude.{IfOk, OnOk, string_bytes, suc, ◌++◌, ◌-◌, ◌≡◌};
 ghost use Rattle.sim_play.specs.Common.{after, HaveKinds, IsSetup, IsValid, own_turns, setup_in, StandsFor, State as AnyState, state_in, systems, systems_of};
-ghost use Rattle.sim_play.specs.Lines.{past_lines, rejoin_text as text_of_rejoin};
-ghost use Rattle.sim_play.specs.Playing.{ComesTo, GoesOnTo, HasPlayed, MayGoOn, MayReach, MayResume};
+ghost use Rattle.sim_play.specs.Playing.{ComesTo, GoesOnTo, HasPlayed, MayReach, MayResume};
+ghost use Rattle.{sim_play.specs.Lines.past_lines, sim_play.specs.Lines.rejoin_text as text_of_rejoin, sim_turn.specs.Turns.MayPlayUntil};
 
 use crate::lines::push_line;
 use sim_base::{OutOfMemory, Setup, State};
@@ -87,10 +87,8 @@ impl Client<'_> {
         until: u32,
         out: &mut String,
     ) -> Result<(), OutOfMemory>
-        requires goes_on { MayGoOn ⟦<dyn System as System>⟧ board.old }
+        requires may { MayPlayUntil board.old until ⟦<dyn System as System>⟧ }
         requires own { state_in board.old ≡ after (setup_in board.old) (own_turns (setup_in board.old) 0 (state_in board.old).turn) }
-        requires ahead { (state_in board.old).turn ≤ until }
-        requires within { until ≤ (setup_in board.old).turns }
         ensures text { OnOk result (string_bytes out.new ≡ string_bytes out.old
             ++ past_lines self.now.word.now (setup_in board.old) (suc (state_in board.old).turn) (until - (state_in board.old).turn)) }
         ensures valid { OnOk result (IsValid (setup_in board.old) (state_in board.new)) }
@@ -103,24 +101,6 @@ impl Client<'_> {
             push_line(self.word, setup, board.scene().state, out)?;
         }
         Ok(())
-    }
-
-    // Starts a board, and plays it to a turn with a line for each.
-    fn start_until(
-        &self,
-        board: &mut Board<'_>,
-        turn: u32,
-        out: &mut String,
-    ) -> Result<(), OutOfMemory>
-        requires { MayReach (setup_in board.old) turn (systems board.old ⟦<dyn System as System>⟧) }
-        ensures text { OnOk result (string_bytes out.new ≡ string_bytes out.old
-            ++ past_lines self.now.word.now (setup_in board.old) 0 (suc turn)) }
-        ensures valid { OnOk result (IsValid (setup_in board.old) (state_in board.new)) }
-        ensures ends { ComesTo ⟦<dyn System as System>⟧ (after (setup_in board.old) (own_turns (setup_in board.old) 0 turn)) result board.old board.new }
-    {
-        board.start()?;
-        push_line(self.word, board.setup(), board.scene().state, out)?;
-        self.push_past(board, turn, out)
     }
 
     // Plays a board from its first state to the end with a line for each turn, and gives the bytes of the state at a turn.
@@ -137,8 +117,10 @@ impl Client<'_> {
         ensures ends { ComesTo ⟦<dyn System as System>⟧ (after (setup_in board.old) (own_turns (setup_in board.old) 0 (setup_in board.old).turns)) result
             board.old board.new }
     {
-        self.start_until(board, turn, out)?;
+        board.start()?;
         let setup = board.setup();
+        push_line(self.word, setup, board.scene().state, out)?;
+        self.push_past(board, turn, out)?;
         let bytes = spell(self.alloc, setup, board.scene().state)?;
         self.push_past(board, setup.turns, out)?;
         Ok(bytes)

@@ -1,11 +1,11 @@
 //! What the players of a match see, and have explored, at a turn of it. The systems of a rig play it, which is handed back.
 
+ghost use Rattle.std.specs.Prelude.{IfOk, length, List, OnOk, string_bytes, ℕ, ◌*◌, ◌-◌, ◌≡◌};
 ghost use Rattle.sim_play.specs.Common.{after, cells_in, joined_at, own_turns, setup_in, sight_text as text_of_vision, systems, systems_of, vision_after};
-ghost use Rattle.sim_play.specs.{Lines.end_from, Playing.ComesTo, Playing.HasPlayed, Playing.MayReach, Playing.MayResume, Seen.resight_text as text_of_resight};
-ghost use Rattle.sim_play.specs.{Seen.sight_file, Seen.sight_text as text_of_sight, States.later_of};
-ghost use Rattle.std.specs.Prelude.{◌*◌, ◌-◌, ◌≡◌, ◌≤◌, IfOk, length, List, OnOk, string_bytes, ℕ};
+ghost use Rattle.sim_play.specs.Lines.{end_from, later_of, resight_text as text_of_resight, sight_file, sight_text as text_of_sight};
+ghost use Rattle.sim_play.specs.Playing.{ComesTo, HasPlayed, MayReach, MayResume};
 
-use crate::following::{adopt_following, start_following};
+use crate::following::follow_until;
 use sim_base::{OutOfMemory, Setup, State};
 use sim_board::Board;
 use sim_orders::OrderTable;
@@ -26,7 +26,9 @@ fn tell_from_the_start(
     ensures ends { ComesTo ⟦<dyn System as System>⟧ (after (setup_in board.old) (own_turns (setup_in board.old) 0 turn)) result board.old board.new }
 {
     let mut sight = Sight::new(alloc, board.setup())?;
-    start_following(alloc, board, orders, &mut sight, turn)?;
+    board.start()?;
+    sight.follow(board.scene().state)?;
+    follow_until(alloc, board, orders, &mut sight, turn)?;
     let mut text = String::new(alloc);
     push_sight(&sight, &mut text)?;
     Ok((text, sight.explored_bytes(alloc)?))
@@ -67,7 +69,9 @@ fn tell_from_a_state(
     ensures ends { ComesTo ⟦<dyn System as System>⟧ (end_from (setup_in board.old) state) result board.old board.new }
 {
     let mut sight = sight;
-    adopt_following(alloc, board, state, orders, &mut sight)?;
+    board.adopt(state)?;
+    let last = board.setup().turns;
+    follow_until(alloc, board, orders, &mut sight, last)?;
     let mut text = String::new(alloc);
     push_sight(&sight, &mut text)?;
     Ok(text)

@@ -1,8 +1,9 @@
 -- What is lent of what an entity sees, and what the system keeps of it.
-use Rattle.sim_range.proofs.Common.{Fact, fact_with, found_all, found_read, found_there, HoldsIfAny, ids_at, ids_of, Land, not_there, placed, rising}
-use Rattle.sim_range.proofs.Common.{None, All, Option, refl, All-cons, All-filter, All-head, All-tail, ap, AreSightsIfAny, arith, Ascend, Belongs, cond_both}
-use Rattle.sim_range.proofs.Common.{seen_among, Sight, sight, Stands, subst, sym, with_only, without, ◌∙◌}
-use Rattle.sim_range.proofs.Common.{◌≡◌, ℕ, ◌<◌, true, false, not, List, [], ◌∷◌, map, length, get_or, is_some, IfSome, IsSome, nat_lt, ◌==◌, MatchOption, Some}
+use Rattle.sim_range.proofs.Common.{Ascend, Belongs, cond_both, Fact, fact_with, false, found_all, found_read, found_there, get_or, HoldsIfAny, id_in, ids_at}
+use Rattle.sim_range.proofs.Common.{[], All, All-cons, All-filter, All-head, All-tail, All-weaker, ap, AreKept, AreReady, AreSights, AreSightsIfAny, arith}
+use Rattle.sim_range.proofs.Common.{ids_of, IfSome, is_some, IsHeld, IsSome, Kind, Land, length, List, map, MatchOption, nat_lt, None, not, not_there, Note}
+use Rattle.sim_range.proofs.Common.{noted, noted_held, NoteFits, Option, part_is, part_noted, placed, refl, rising, seen_among, SeesFrom, SeesWithin, Sight}
+use Rattle.sim_range.proofs.Common.{sight, Sights, Some, Stands, subst, sym, true, with_only, without, ℕ, ◌<◌, ◌==◌, ◌∙◌, ◌∷◌, ◌≡◌, ◌≤◌}
 use Rattle.sim_range.proofs.Watching.{long_as, map_by, read_map}
 
 pub same_sights : (land later : Option Land) (facts after : List Fact) (old new : List Sight) → later ≡ land → after ≡ facts → length new ≡ length old
@@ -82,3 +83,53 @@ module _ (P : Fact → Type 0) where
   pub all_only : (id : ℕ) (part : Option Fact) (facts : List Fact) → All P facts → IfSome part P → All P (with_only id part facts)
   all_only id None facts all h = all_without id facts all
   all_only id (Some f) facts all h = all_placed f (without id facts) h (all_without id facts all)
+
+-- What is kept of an id is held on the land, also after a note.
+
+pub found_held : (land : Option Land) (facts : List Fact) (id : ℕ) (o : Option Fact) → HoldsIfAny land facts → o ≡ fact_with facts id → (l : Land)
+    → land ≡ Some l → IfSome o (IsHeld l)
+found_held land facts id None h found l is = tt
+found_held land facts id (Some f) h found l is = found_all (IsHeld l) id facts f (h l is).held.each (sym found)
+
+pub part_held : (kind : Kind) (land : Option Land) (facts : List Fact) (note : Note) (id : ℕ) (before part : Option Fact)
+    → MatchOption land ⊥ (λ (l : Land). NoteFits kind l facts note) → HoldsIfAny land facts → id ≡ id_in note → before ≡ fact_with facts id
+    → part ≡ part_noted kind before note →
+    (l : Land) → land ≡ Some l → IfSome part (IsHeld l)
+part_held kind None facts note id before part fits h e found is l same = absurd fits
+part_held kind (Some m) facts note id before part fits h e found is l same =
+    let here : before ≡ fact_with facts (id_in note) = found ∙ ap (fact_with facts) e in
+    let known = h m refl in
+    let one : m ≡ l = cc in
+    let made : part ≡ fact_with (noted kind facts note) (id_in note) = is ∙ ap (λ (o : Option Fact). part_noted kind o note) here ∙
+    sym (part_is kind m facts note fits) in
+    subst (λ (n : Land). IfSome part (IsHeld n)) one (by m part (noted_held m known.limits kind facts note fits known.held).each made)
+  where
+    by : (n : Land) (o : Option Fact) → All (IsHeld n) (noted kind facts note) → o ≡ fact_with (noted kind facts note) (id_in note) → IfSome o (IsHeld n)
+    by n None all e = tt
+    by n (Some f) all e = found_all (IsHeld n) (id_in note) (noted kind facts note) f all (sym e)
+
+-- Sights that are kept, when room is made and when a note is taken up.
+
+pub nearer : (old new : ℕ) (facts : List Fact) → new ≤ old → All (SeesFrom old) facts → All (SeesFrom new) facts
+nearer old new facts less all = All-weaker (SeesFrom old) (SeesFrom new) (λ f sees raw is. let known = sees raw is in omega (arith, less, known)) facts all
+
+pub further : (old new : ℕ) (facts : List Fact) → old ≤ new → All (SeesWithin old) facts → All (SeesWithin new) facts
+further old new facts more all = All-weaker (SeesWithin old) (SeesWithin new) (λ f sees raw is. let known = sees raw is in omega (arith, more, known)) facts all
+
+pub taken_up : (land : Option Land) (m : Land) (facts lent : List Fact) (id : ℕ) (part : Option Fact) (all : List Sight) → land ≡ Some m → lent ≡ facts
+    → AreSights m (with_only id part lent) all → AreSightsIfAny land (with_only id part facts) all
+taken_up land m facts lent id part all is same are l here =
+    let one : m ≡ l = cc in
+    subst (λ (n : Land). AreSights n (with_only id part facts) all) one (subst (λ (fs : List Fact). AreSights m (with_only id part fs) all) same are)
+
+pub kept_along : (land later : Option Land) (facts after : List Fact) (sights : Sights) → later ≡ land → after ≡ facts → AreKept land facts sights
+    → AreKept later after sights
+kept_along land later facts after sights one two kept = subst (λ (m : Option Land). AreKept m after sights) (sym one)
+    (subst (λ (fs : List Fact). AreKept land fs sights) (sym two) kept)
+
+pub ready_along : (land later : Option Land) (facts after : List Fact) (id : ℕ) (before part : Option Fact) (sights : Sights) → later ≡ land → after ≡ facts
+    → before ≡ fact_with facts id → AreReady land facts before part sights → AreReady later after (fact_with after id) part sights
+ready_along land later facts after id before part sights one two found ready =
+    subst (λ (m : Option Land). AreReady m after (fact_with after id) part sights) (sym one)
+    (subst (λ (fs : List Fact). AreReady land fs (fact_with fs id) part sights) (sym two)
+    (subst (λ (o : Option Fact). AreReady land facts o part sights) found ready))

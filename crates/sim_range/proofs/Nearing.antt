@@ -1,12 +1,145 @@
 -- Who is near a point, bucket by bucket.
-use Rattle.sim_range.proofs.{Bucketing.small_bucket, Sorting.AtLeast, Sorting.Climbs, Sorting.same_order}
-use Rattle.sim_range.proofs.Common.{AreBuckets, ArePlaced, arith, Ascend, below_bucket, Bucket, bucket_at, bucket_key, cases_lt, eqb-true, Fact, held_in, Holds}
-use Rattle.sim_range.proofs.Common.{IsPermutation-middle, IsPermutation-refl, IsPermutation-sym, IsPermutation-trans, IsPlaced, Land, lt-ltb, mul-add-lt}
-use Rattle.sim_range.proofs.Common.{id_of_fact, in_mask, inl, inr, is_near, IsHeld, IsNonDecreasing, IsPermutation-append_left, IsPermutation-cons}
-use Rattle.sim_range.proofs.Common.{mul-le, Point, Rising, rising, subst, sym, within_among, ◌∙◌}
-use Rattle.sim_range.proofs.Common.{◌==◌, unsigned_abs, All, filter, IsPermutation, refl, Above, All-filter, All-head, All-tail, and_parts, ap}
-use Rattle.sim_range.proofs.Common.{◌≡◌, ℕ, suc, ◌+◌, ◌*◌, ◌<◌, ◌≤◌, Bool, true, false, cond, ◌&&◌, List, [], ◌∷◌, ◌++◌, map, length, get_or, ℤ, ◌-ℤ◌, nat_lt}
-use Rattle.std.proofs.lemmas.Bool.{leb-true}
+pub use Rattle.sim_base.proofs.GroundPoints.{placed_on}
+use Rattle.sim_range.proofs.Common.{IsPermutation-append_left, IsPermutation-cons, IsPermutation-middle, IsPermutation-refl, IsPermutation-sym}
+use Rattle.sim_range.proofs.Common.{IsPermutation-trans, IsPlaced, IsSome, Kind, Land, length, List, lt-ltb, map, MatchOption, mul-add-lt, mul-le, nat_lt}
+use Rattle.sim_range.proofs.Common.{Some, subst, suc, sum_by, sum_by-cons, sum_by-IsPermutation, sym, take, true, unsigned_abs, within_among, zero, ℕ, ℤ, ◌%◌}
+use Rattle.sim_range.proofs.Common.{[], Above, All, All-filter, All-head, All-tail, All-weaker, all_at, and_parts, ap, Area, AreApart, AreBuckets, ArePlaced}
+use Rattle.sim_range.proofs.Common.{arith, Ascend, below_bucket, Bool, Bucket, bucket_at, bucket_key, cases_lt, cell_of, changed_at, cond, eqb-true, Fact}
+use Rattle.sim_range.proofs.Common.{fact_with, facts_at, false, filter, find_has, found_all, get_or, held_in, Holds, HoldsIfAny, id_in, id_of_fact, IfSome}
+use Rattle.sim_range.proofs.Common.{in_bucket, in_mask, inl, inr, ints, is_in_bucket, is_near, IsBeside, IsHeld, IsIn, IsLand, IsNonDecreasing, IsPermutation}
+use Rattle.sim_range.proofs.Common.{nat_tests, None, Note, noted, noted_held, NoteFits, Option, part_is, part_noted, Point, pos, put_is, refl, Rising, rising}
+use Rattle.sim_range.proofs.Common.{◌&&◌, ◌*◌, ◌++◌, ◌+◌, ◌-ℤ◌, ◌/◌, ◌<ℤ◌, ◌<◌, ◌==◌, ◌∙◌, ◌∷◌, ◌≡◌, ◌≤ℤ◌, ◌≤◌}
+use Rattle.{sim_range.proofs.Holding.changed_is, sim_range.proofs.Holding.one_more_held, std.proofs.lemmas.Bool.leb-true}
+
+-- Ascending numbers are in one order: two such lists of the same numbers are the same.
+
+-- all numbers are at least this
+abbrev pub AtLeast : ℕ → List ℕ → Type 0
+AtLeast n [] = Unit {0}
+AtLeast n (x ∷ xs) = (n ≤ x) × AtLeast n xs
+
+-- no number is above a later one
+abbrev pub Climbs : List ℕ → Type 0
+Climbs [] = Unit {0}
+Climbs (x ∷ xs) = AtLeast x xs × Climbs xs
+
+at_least : (n : ℕ) (xs : List ℕ) → ((k : ℕ) → k < length xs → n ≤ get_or xs k 0) → AtLeast n xs
+at_least n [] h = tt
+at_least n (x ∷ xs) h = (h zero (omega arith), at_least n xs (λ k lt. h (suc k) (omega arith)))
+
+climbs_by : (xs : List ℕ) → ((i j : ℕ) → i ≤ j → j < length xs → get_or xs i 0 ≤ get_or xs j 0) → Climbs xs
+climbs_by [] h = tt
+climbs_by (x ∷ xs) h = (
+  at_least x xs (λ k lt. h zero (suc k) (omega arith) (omega arith)),
+  climbs_by xs (λ i j le lt. h (suc i) (suc j) (omega arith) (omega arith)),
+)
+
+pub climbs : (xs : List ℕ) → IsNonDecreasing xs → Climbs xs
+climbs xs up = climbs_by xs (λ i j le lt. up i j 0 le lt)
+
+-- one if a number is below this
+abbrev below : ℕ → ℕ → ℕ
+below n x = cond (nat_lt x n) 1 0
+
+none_below : (n : ℕ) (xs : List ℕ) → AtLeast n xs → sum_by (below n) xs ≡ 0
+none_below n [] h = refl
+none_below n (x ∷ xs) h =
+    let le : n ≤ x = h.0 in
+    let no : nat_lt x n ≡ false = grind arith in
+    let one : below n x ≡ 0 = ap (λ (b : Bool). cond b 1 0) no in
+    let rest : sum_by (below n) xs ≡ 0 = none_below n xs h.1 in
+    sum_by-cons (below n) x xs ∙ omega (arith, one, rest)
+
+first_at_least : (n x : ℕ) (xs : List ℕ) → sum_by (below n) (x ∷ xs) ≡ 0 → n ≤ x
+first_at_least n x xs e = by (nat_lt x n) refl
+  where
+    by : (b : Bool) → nat_lt x n ≡ b → n ≤ x
+    by true s = let one : below n x ≡ 1 = ap (λ (b : Bool). cond b 1 0) s in let all = sym (sum_by-cons (below n) x xs) ∙ e in absurd (omega (arith, one, all))
+    by false s = grind arith
+
+pub same_sums : (xs ys : List ℕ) → Climbs xs → Climbs ys → ((f : ℕ → ℕ) → sum_by f ys ≡ sum_by f xs) → ys ≡ xs
+same_sums [] [] up also h = refl
+same_sums [] (y ∷ ys) up also h = let one = sym (sum_by-cons (λ (n : ℕ). 1) y ys) ∙ h (λ n. 1) in absurd (omega (arith, one))
+same_sums (x ∷ xs) [] up also h = let one = h (λ n. 1) ∙ sum_by-cons (λ (n : ℕ). 1) x xs in absurd (omega (arith, one))
+same_sums (x ∷ xs) (y ∷ ys) up also h =
+    let low : x ≤ y = first_at_least x y ys (h (below x) ∙ none_below x (x ∷ xs) (omega arith, up.0)) in
+    let high : y ≤ x = first_at_least y x xs (sym (h (below y)) ∙ none_below y (y ∷ ys) (omega arith, also.0)) in
+    let same : y ≡ x = omega (arith, low, high) in
+    let rest : (f : ℕ → ℕ) → sum_by f ys ≡ sum_by f xs =
+    λ f. (let all : f y + sum_by f ys ≡ f x + sum_by f xs = sym (sum_by-cons f y ys) ∙ h f ∙ sum_by-cons f x xs in let first : f y ≡ f x = ap f same in
+    omega (arith, all, first)) in
+    ap (λ (n : ℕ). n ∷ ys) same ∙ ap (λ (ns : List ℕ). x ∷ ns) (same_sums xs ys up.1 also.1 rest)
+
+pub same_order : (xs ys : List ℕ) → Climbs xs → IsNonDecreasing ys → IsPermutation xs ys → ys ≡ xs
+same_order xs ys up also same = same_sums xs ys up (climbs ys also) (λ f. sum_by-IsPermutation f xs ys same)
+
+-- A fact that is held stands on the largest ground, and its owner has a bit in a mask.
+
+pub owner_small : (land : Land) (fact : Fact) → IsLand land → IsHeld land fact → fact.owner < 32
+owner_small land fact limits held = omega (arith, held.owner, limits.players.1)
+
+-- a fact that is found is held
+pub found_held : (land : Land) (facts : List Fact) (id : ℕ) (fact : Fact) → Holds land facts → fact_with facts id ≡ Some fact → IsHeld land fact
+found_held land facts id fact holds found = all_at (IsHeld land) facts fact holds.held.each ((find_has (λ (f : Fact). f.id == id) facts fact found).0)
+
+-- Who stands in which bucket, also after a note.
+
+-- ---- numbers of buckets
+
+pub small_west : (p : Point) → IsPlaced p → (cell_of p).x / 16 < 16
+small_west p h = let low = h.west in let high = h.east in omega (arith, ints, low, high)
+
+pub small_bucket : (p : Point) → IsPlaced p → bucket_at p < 256
+small_bucket p h = let west = h.west in let east = h.east in let south = h.south in let north = h.north in omega (arith, ints, west, east, south, north)
+
+same_number : (x z bx bz : ℕ) → x < 16 → bx < 16 → (z * 16 + x == bz * 16 + bx) ≡ (x == bx && z == bz)
+same_number x z bx bz lt also = grind (arith, nat_tests)
+
+test_is : (bx bz : ℕ) (f : Fact) → bx < 16 → IsPlaced f.at → (bucket_key f == bz * 16 + bx) ≡ is_in_bucket bx bz f.at
+test_is bx bz f lt placed = same_number ((cell_of f.at).x / 16) ((cell_of f.at).z / 16) bx bz (small_west f.at placed) lt
+
+pub bucket_is : (bx bz : ℕ) (facts : List Fact) → bx < 16 → ArePlaced facts → map id_of_fact (held_in (bz * 16 + bx) facts) ≡ in_bucket bx bz facts
+bucket_is bx bz facts lt placed = ap (map id_of_fact) (same facts placed)
+  where
+    same : (fs : List Fact) → ArePlaced fs → filter (λ (f : Fact). bucket_key f == bz * 16 + bx) fs ≡ filter (λ (f : Fact). is_in_bucket bx bz f.at) fs
+    same [] all = refl
+    same (f ∷ fs) all =
+        ap (λ (b : Bool). cond b (f ∷ filter (λ (g : Fact). bucket_key g == bz * 16 + bx) fs) (filter (λ (g : Fact). bucket_key g == bz * 16 + bx) fs))
+        (test_is bx bz f lt (All-head (λ (g : Fact). IsPlaced g.at) f fs all))
+        ∙ ap (λ (gs : List Fact). cond (is_in_bucket bx bz f.at) (f ∷ gs) gs) (same fs (All-tail (λ (g : Fact). IsPlaced g.at) f fs all))
+
+-- ---- where the facts stand
+
+held_placed : (l : Land) (facts : List Fact) → Holds l facts → ArePlaced facts
+held_placed l facts h = All-weaker (IsHeld l) (λ (f : Fact). IsPlaced f.at) (λ f held. placed_on l f.at h.limits held.at) facts h.held.each
+
+pub all_placed : (land : Option Land) (P : Land → Type 0) (facts : List Fact) → MatchOption land ⊥ P → HoldsIfAny land facts → ArePlaced facts
+all_placed None P facts fits h = absurd fits
+all_placed (Some l) P facts fits h = held_placed l facts (h l refl)
+
+pub placed_after : (land later : Option Land) (P : Land → Type 0) (facts : List Fact) → MatchOption land ⊥ P → later ≡ land → HoldsIfAny later facts
+    → ArePlaced facts
+placed_after land later P facts fits same h = all_placed land P facts fits (subst (λ (m : Option Land). HoldsIfAny m facts) same h)
+
+pub found_placed : (facts : List Fact) (id : ℕ) (o : Option Fact) → o ≡ fact_with facts id → ArePlaced facts → IfSome o (λ (f : Fact). IsPlaced f.at)
+found_placed facts id None e all = tt
+found_placed facts id (Some f) e all = found_all (λ (g : Fact). IsPlaced g.at) id facts f all (sym e)
+
+-- the facts after a note
+placed_noted : (kind : Kind) (l : Land) (facts : List Fact) (note : Note) → NoteFits kind l facts note → Holds l facts → ArePlaced (noted kind facts note)
+placed_noted kind l facts note fits h = held_placed l (noted kind facts note)
+    (record { limits = h.limits; held = noted_held l h.limits kind facts note fits h.held })
+
+-- what is kept of the id after the note
+pub part_placed : (kind : Kind) (land : Option Land) (facts : List Fact) (note : Note) (id : ℕ) (before part : Option Fact)
+    → MatchOption land ⊥ (λ (l : Land). NoteFits kind l facts note) → HoldsIfAny land facts → id ≡ id_in note → before ≡ fact_with facts id
+    → part ≡ part_noted kind before note →
+    IfSome part (λ (f : Fact). IsPlaced f.at)
+part_placed kind None facts note id before part fits h e found is = absurd fits
+part_placed kind (Some l) facts note id before part fits h e found is =
+    let here : before ≡ fact_with facts (id_in note) = found ∙ ap (fact_with facts) e in
+    found_placed (noted kind facts note) (id_in note) part (is ∙ ap (λ (o : Option Fact). part_noted kind o note) here ∙ sym (part_is kind l facts note fits))
+    (placed_noted kind l facts note fits (h l refl))
 
 -- whether one has health and a masked owner, and is near a point
 abbrev pub near_by : Point → ℤ → ℕ → Fact → Bool
@@ -190,3 +323,68 @@ pub bucket_held : (land : Land) (facts : List Fact) (k : ℕ) (buckets : List Bu
 bucket_held land facts k buckets b lent holds are lt there is =
     subst (All (IsHeld land)) (sym (lent_held facts k buckets b lent are lt there is))
     (All-filter (λ (f : Fact). bucket_key f == k) (IsHeld land) facts holds.held.each)
+
+-- The list of buckets when one fact changes.
+
+-- ---- the buckets are those of the facts
+
+pub one_more_bucketed : (facts : List Fact) (i : ℕ) (f : Fact) (old room new : List Bucket) → Ascend facts → i < length facts → f ≡ get_or facts i f
+    → length old ≡ 256 → length new ≡ 256 → AreBuckets (take i facts) old →
+    ((k : ℕ) (d : Bucket) → k < 256 → facts_at room k d ≡ facts_at old k d)
+    → ((k : ℕ) (d : Bucket) → k < 256 → facts_at new k d ≡ changed_at k f.id None (Some f) (facts_at room k d)) → AreBuckets (take (i + 1) facts) new
+one_more_bucketed facts i f old room new up within is many also are same changed k d lt =
+    let low : k < 256 = omega (arith, lt, also) in
+    changed k d low ∙ ap (changed_at k f.id None (Some f)) (same k d low ∙ are k d (omega (arith, low, many))) ∙ one_more_held k i f facts (rising facts up)
+    within is
+
+pub noted_buckets : (kind : Kind) (land : Option Land) (note : Note) (id : ℕ) (before part : Option Fact) (facts after : List Fact) (old room new : List Bucket)
+    → MatchOption land ⊥ (λ (l : Land). NoteFits kind l facts note) → HoldsIfAny land facts → length old ≡ 256 → length new ≡ 256 → AreBuckets facts old →
+    id ≡ id_in note → before ≡ fact_with facts id → part ≡ part_noted kind before note → after ≡ noted kind facts note
+    → ((k : ℕ) (d : Bucket) → k < 256 → facts_at room k d ≡ facts_at old k d) →
+    ((k : ℕ) (d : Bucket) → k < 256 → facts_at new k d ≡ changed_at k id before part (facts_at room k d)) → AreBuckets after new
+noted_buckets kind None note id before part facts after old room new fits h many also are is found made told same changed k d lt = absurd fits
+noted_buckets kind (Some l) note id before part facts after old room new fits h many also are is found made told same changed k d lt =
+    let low : k < 256 = omega (arith, lt, also) in
+    changed k d low ∙ ap (changed_at k id before part) (same k d low ∙ are k d (omega (arith, low, many))) ∙ changed_is k id before part facts
+    (rising facts (h l refl).held.ascending) found
+    ∙ ap (held_in k) (put_is kind (Some l) facts note id before part fits h is found made ∙ sym told)
+
+-- what is built is not bare
+pub still_built : {P : Type 0} (land later : Option Land) → IsSome land → later ≡ land → later ≡ None → P
+still_built None later some same none = absurd (cc)
+still_built (Some l) later some same none = absurd (cc)
+
+-- ---- what is lent
+
+pub lent_is : (bx bz number : ℕ) (facts : List Fact) (lent buckets : List Bucket) (b : Bucket) (ids : List ℕ) → bx < 16 → ArePlaced facts
+    → AreBuckets facts buckets → number ≡ bz * 16 + bx → lent ≡ buckets → true ≡ nat_lt number (length lent) → b ≡ get_or lent number b → ids ≡ b.ids.items
+    → ids ≡ in_bucket bx bz facts
+lent_is bx bz number facts lent buckets b ids low placed are is same within there given =
+    let also : length lent ≡ length buckets = ap (λ (bs : List Bucket). length bs) same in
+    let first : number < length lent = grind arith in
+    let lt : number < length buckets = omega (arith, first, also) in
+    given ∙ b.named ∙ ap (map id_of_fact) (ap (λ (c : Bucket). c.facts.items) (there ∙ ap (λ (bs : List Bucket). get_or bs number b) same) ∙ are number b lt ∙
+    ap (λ (n : ℕ). held_in n facts) is) ∙ bucket_is bx bz facts low placed
+
+-- Buckets beside an area are out of reach.
+
+pub row_is : (z x k : ℕ) → x < 16 → z * 16 + x ≡ k → z ≡ k / 16
+row_is z x k lt is = omega arith
+
+pub column_is : (z x k : ℕ) → x < 16 → z * 16 + x ≡ k → x ≡ k % 16
+column_is z x k lt is = omega arith
+
+pub apart_by : (k reach : ℕ) (area : Area) (p q : Point) → IsBeside k area → IsPlaced p → bucket_at p ≡ k
+    → ((other : ℤ) → pos 0 ≤ℤ other → other <ℤ pos 16777216 → unsigned_abs (other -ℤ q.z) ≤ reach → IsIn area.rows (unsigned_abs other / 65536 / 16)) →
+    ((other : ℤ) → pos 0 ≤ℤ other → other <ℤ pos 16777216 → unsigned_abs (other -ℤ q.x) ≤ reach → IsIn area.columns (unsigned_abs other / 65536 / 16))
+    → AreApart reach p q
+apart_by k reach area p q beside placed key rows columns x z =
+    let row = rows p.z placed.south placed.north z in
+    let column = columns p.x placed.west placed.east x in
+    let low = small_west p placed in
+    beside (subst (IsIn area.rows) (row_is ((cell_of p).z / 16) ((cell_of p).x / 16) k low key) row)
+    (subst (IsIn area.columns) (column_is ((cell_of p).z / 16) ((cell_of p).x / 16) k low key) column)
+
+pub some_is : (o : Option Fact) (f : Fact) (P : Fact → Type 0) → o ≡ Some f → P f → IfSome o P
+some_is None f P is h = tt
+some_is (Some g) f P is h = let same : f ≡ g = cc in subst P same h

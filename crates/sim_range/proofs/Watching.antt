@@ -1,11 +1,67 @@
 -- The sights beside the facts, when some of them are changed in turn.
-use Rattle.sim_range.proofs.{Common.with_only, Common.without, Common.without_missing, Common.◌∙◌, Seeing.sight_ups, Seeing.still_sees, Seeing.turned_is}
-use Rattle.sim_range.proofs.{Putting.only_ascends, Turning.increasing}
-use Rattle.sim_range.proofs.Common.{IsStrictlyIncreasing, Land, length-map, list_any_at, list_any_more, map-set, Missing, missing_without, ne_eqb, nothing_new}
-use Rattle.sim_range.proofs.Common.{cases_eq, cases_lt, eq-eqb, Fact, fact_with, get_or_read, HasPlace, HaveRooms, ids_at, ids_of, inl, inr, is_among, is_seen}
-use Rattle.sim_range.proofs.Common.{placed, put_new, put_nothing, put_over, Rising, rising, Sight, sight, Stands, subst, sym, turned, with_id, with_kept}
-use Rattle.sim_range.proofs.Common.{◌==◌, Some, None, vec_len, vec_capacity, insert, remove, Option, refl, above_at, ap, AreChanging, arith, Ascend, Belongs}
-use Rattle.sim_range.proofs.Common.{◌≡◌, ℕ, zero, suc, ◌+◌, ◌<◌, Bool, true, false, cond, ◌||◌, List, [], ◌∷◌, map, length, get_or, take, set, IfSome, nat_lt}
+use Rattle.sim_range.proofs.Common.{AgreeElsewhere, arith, IsStrictlyIncreasing, list_any_more, missing_without, rising_placed, rising_without, without_missing}
+use Rattle.sim_range.proofs.Common.{AreChanging, Bool, found_there, get_or_read, list_any_at, map-set_same, nothing_new, only_itself, put_nothing, vec_capacity}
+use Rattle.sim_range.proofs.Common.{AreInView, AreSights, fact_with, found_read, HaveRooms, id_of_fact, length-map, not_there, with_kept, with_only, without_id}
+use Rattle.sim_range.proofs.Common.{Ascend, eq-eqb, get_or, ids_at, ids_of, IfSome, insert, length, nat_lt, ne_eqb, Option, put_new, vec_len, with_id, without}
+use Rattle.sim_range.proofs.Common.{Fact, Land, List, None, Rising, Sight, Some, Stands, cond, false, placed, refl, remove, rising, sight, subst, take, turned}
+use Rattle.sim_range.proofs.Common.{[], All, ap, inl, inr, map, not, set, suc, sym, true, view, zero, ℕ, ◌+◌, ◌<◌, ◌==◌, ◌||◌, ◌∙◌, ◌∷◌, ◌≡◌}
+use Rattle.sim_range.proofs.Common.{above_at, All-head, All-tail, ascends, Belongs, cases_eq, cases_lt, HasPlace, is_among, is_seen, map-set, Missing, put_over}
+use Rattle.sim_range.proofs.{Nearing.chosen, Nearing.chosen-cons, Seeing.chosen_only, Seeing.chosen_ups, Seeing.chosen_without, Seeing.seen_is}
+use Rattle.sim_range.proofs.{Seeing.sight_ups, Seeing.still_sees, Seeing.turned_is, Turning.increasing, Turning.with_without}
+
+-- What an edit of a bucket leaves: the facts ascend, and the ids are theirs.
+
+-- ---- the facts
+
+rising_only : (id : ℕ) (part : Option Fact) (facts : List Fact) → IfSome part (λ (f : Fact). f.id ≡ id) → Rising facts → Rising (with_only id part facts)
+rising_only id None facts named r = rising_without id facts r
+rising_only id (Some f) facts named r =
+    rising_placed f (without id facts) (subst (λ (n : ℕ). Missing n (without id facts)) (sym named) (without_missing id facts)) (rising_without id facts r)
+
+pub only_ascends : (id : ℕ) (part : Option Fact) (facts xs : List Fact) → IfSome part (λ (f : Fact). f.id ≡ id) → Ascend facts → xs ≡ with_only id part facts
+    → Ascend xs
+only_ascends id part facts xs named up is = subst Ascend (sym is) (ascends (with_only id part facts) (rising_only id part facts named (rising facts up)))
+
+pub ok_list : (a : Bool) (xs ys zs : List Fact) → a ≡ true → zs ≡ cond a ys xs → zs ≡ ys
+ok_list a xs ys zs ok is = is ∙ ap (λ (c : Bool). cond c ys xs) ok
+
+-- ---- their ids
+
+map-remove : (facts : List Fact) (at : ℕ) → map id_of_fact (remove facts at) ≡ remove (map id_of_fact facts) at
+map-remove [] zero = refl
+map-remove [] (suc at) = refl
+map-remove (f ∷ facts) zero = refl
+map-remove (f ∷ facts) (suc at) = ap (λ (xs : List ℕ). f.id ∷ xs) (map-remove facts at)
+
+map-insert : (facts : List Fact) (at : ℕ) (f : Fact) → map id_of_fact (insert facts at f) ≡ insert (map id_of_fact facts) at f.id
+map-insert [] zero f = refl
+map-insert [] (suc at) f = refl
+map-insert (g ∷ facts) zero f = refl
+map-insert (g ∷ facts) (suc at) f = ap (λ (xs : List ℕ). g.id ∷ xs) (map-insert facts at f)
+
+pub named_over : (lent facts : List Fact) (ids : List ℕ) (id at : ℕ) (part : Option Fact) (f : Fact) → lent ≡ facts → Stands lent id at → part ≡ Some f
+    → IfSome part (λ (g : Fact). g.id ≡ id) → ids ≡ map id_of_fact facts →
+    ids ≡ map id_of_fact (set facts at f)
+named_over lent facts ids id at None f is s e named same = absurd (cc)
+named_over lent facts ids id at (Some g) f is s e named same =
+    let one : g ≡ f = cc in
+    let here : Stands facts id at = subst (λ (fs : List Fact). Stands fs id at) is s in
+    same ∙ sym (map-set_same id_of_fact facts at f f (ap id_of_fact (sym one) ∙ named ∙ sym (here.same f)))
+
+pub named_removed : (facts xs : List Fact) (ids left : List ℕ) (at : ℕ) → ids ≡ map id_of_fact facts → xs ≡ remove facts at → left ≡ remove ids at →
+    left ≡ map id_of_fact xs
+named_removed facts xs ids left at same first second = second ∙ ap (λ (ns : List ℕ). remove ns at) same ∙ sym (map-remove facts at) ∙
+    ap (map id_of_fact) (sym first)
+
+pub named_inserted : (facts xs : List Fact) (ids more : List ℕ) (id at : ℕ) (part : Option Fact) (f : Fact) (a b : Bool) → part ≡ Some f
+    → IfSome part (λ (g : Fact). g.id ≡ id) → ids ≡ map id_of_fact facts → a ≡ true → b ≡ true →
+    xs ≡ cond a (insert facts at f) facts → more ≡ cond b (insert ids at id) ids → more ≡ map id_of_fact xs
+named_inserted facts xs ids more id at None f a b e named same one two first second = absurd (cc)
+named_inserted facts xs ids more id at (Some g) f a b e named same one two first second =
+    let it : g ≡ f = cc in
+    second ∙ ap (λ (c : Bool). cond c (insert ids at id) ids) two ∙ ap (λ (ns : List ℕ). insert ns at id) same ∙ ap (insert (map id_of_fact facts) at)
+    (sym named ∙ ap id_of_fact it) ∙ sym (map-insert facts at f)
+    ∙ ap (map id_of_fact) (sym (ok_list a facts (insert facts at f) xs one first))
 
 -- ---- lists in step
 
@@ -279,3 +335,109 @@ module _ (land : Land) (id : ℕ) (after : Option Fact) (facts : List Fact) (up 
       pub same_room : (i : ℕ) (g : Fact) (d : Sight) → i < length facts → is_among watchers (get_or facts i g).id ≡ true
           → is_among (take (j + 1) watchers) (get_or facts i g).id ≡ false → vec_len (get_or old i d).ids < vec_capacity (get_or old i d).ids
       same_room i g d within among later_on = room i g d within among (sym (among_still watchers j (get_or facts i g).id lt (other i g within)) ∙ later_on)
+
+-- What passes a test, when the test changes for some in turn.
+
+module _ (p q : Fact → Bool) where
+  -- where two tests say the same of all
+  chosen_same : (facts : List Fact) → All (λ (e : Fact). p e ≡ q e) facts → chosen p facts ≡ chosen q facts
+  chosen_same [] same = refl
+  chosen_same (f ∷ facts) same =
+      chosen-cons p f facts ∙ ap (λ (c : Bool). cond c (f.id ∷ chosen p facts) (chosen p facts)) (All-head (λ (e : Fact). p e ≡ q e) f facts same)
+      ∙ ap (λ (xs : List ℕ). cond (q f) (f.id ∷ xs) xs) (chosen_same facts (All-tail (λ (e : Fact). p e ≡ q e) f facts same)) ∙ sym (chosen-cons q f facts)
+
+  -- and of all but one
+  same_without : (id : ℕ) (facts : List Fact) → All (λ (e : Fact). (e.id ≡ id → ⊥) → p e ≡ q e) facts → chosen p (without id facts) ≡ chosen q
+      (without id facts)
+  same_without id [] same = refl
+  same_without id (f ∷ facts) same =
+      by (f.id == id) refl (All-head (λ (e : Fact). (e.id ≡ id → ⊥) → p e ≡ q e) f facts same)
+      (same_without id facts (All-tail (λ (e : Fact). (e.id ≡ id → ⊥) → p e ≡ q e) f facts same))
+    where
+      by : (b : Bool) → (f.id == id) ≡ b → ((f.id ≡ id → ⊥) → p f ≡ q f) → chosen p (without id facts) ≡ chosen q (without id facts) →
+          chosen p (cond (not b) (f ∷ without id facts) (without id facts)) ≡ chosen q (cond (not b) (f ∷ without id facts) (without id facts))
+      by true e first rest = rest
+      by false e first rest =
+          chosen-cons p f (without id facts) ∙ ap (λ (c : Bool). cond c (f.id ∷ chosen p (without id facts)) (chosen p (without id facts)))
+          (first (λ s. let yes : (f.id == id) ≡ true = eq-eqb f.id id s in absurd (cc)))
+          ∙ ap (λ (xs : List ℕ). cond (q f) (f.id ∷ xs) xs) rest ∙ sym (chosen-cons q f (without id facts))
+
+  turned_chosen : (facts : List Fact) (id at : ℕ) (f : Fact) → Ascend facts → Stands facts id at → f ≡ get_or facts at f
+      → All (λ (e : Fact). (e.id ≡ id → ⊥) → p e ≡ q e) facts → turned (q f) id (chosen p facts) ≡ chosen q facts
+  turned_chosen facts id at f up s is same = by (q f) ∙ sym again
+    where
+      named : f.id ≡ id
+      named = ap (λ (e : Fact). e.id) is ∙ s.same f
+
+      whole : placed f (without id facts) ≡ facts
+      whole = ap (λ (o : Option Fact). with_only id o facts) (found_read facts id at f up s is) ∙ only_itself id facts (rising facts up)
+
+      again : chosen q facts ≡ turned (q f) id (chosen q facts)
+      again = ap (chosen q) (sym whole) ∙ chosen_only q id f facts (rising facts up) named
+
+      alike : without_id id (chosen p facts) ≡ without_id id (chosen q facts)
+      alike = sym (chosen_without p id facts) ∙ same_without id facts same ∙ chosen_without q id facts
+
+      by : (c : Bool) → turned c id (chosen p facts) ≡ turned c id (chosen q facts)
+      by true = sym (with_without id (chosen p facts) (chosen_ups p facts (rising facts up))) ∙ ap (with_id id) alike ∙ with_without id (chosen q facts)
+          (chosen_ups q facts (rising facts up))
+      by false = alike
+
+-- a test when it has changed for these
+abbrev pub mixed : (Fact → Bool) → (Fact → Bool) → List ℕ → Fact → Bool
+mixed g h done f = cond (is_among done f.id) (h f) (g f)
+
+module _ (g h : Fact → Bool) (facts : List Fact) (up : Ascend facts) (ids : List ℕ) where
+  pub mixed_up : (done own : List ℕ) → own ≡ chosen (mixed g h done) facts → IsStrictlyIncreasing own
+  mixed_up done own is = subst IsStrictlyIncreasing (sym is) (increasing (chosen (mixed g h done) facts) (chosen_ups (mixed g h done) facts (rising facts up)))
+
+  pub mixed_all : (done : List ℕ) → done ≡ ids → AgreeElsewhere g h facts ids → chosen (mixed g h done) facts ≡ chosen h facts
+  mixed_all done is agree = ap (λ (ns : List ℕ). chosen (mixed g h ns) facts) is ∙ chosen_same (mixed g h ids) h facts
+      (λ i f lt. by i f lt (is_among ids (get_or facts i f).id) refl)
+    where
+      by : (i : ℕ) (f : Fact) → i < length facts → (b : Bool) → is_among ids (get_or facts i f).id ≡ b → cond b (h (get_or facts i f)) (g (get_or facts i f)) ≡
+          h (get_or facts i f)
+      by i f lt true e = refl
+      by i f lt false e = agree i f lt e
+
+  module _ (j : ℕ) (lt : j < length ids) (own : List ℕ) (is : own ≡ chosen (mixed g h (take j ids)) facts) where
+    still : (n : ℕ) (e : Fact) → e.id ≡ n → (get_or ids j 0 ≡ n → ⊥) → mixed g h (take j ids) e ≡ mixed g h (take (j + 1) ids) e
+    still n e named other = ap (λ (c : Bool). cond c (h e) (g e)) (sym (among_still ids j e.id lt (λ s. other (s ∙ named))))
+
+    pub next_mixed : (at : ℕ) (f : Fact) (b : Bool) (new : List ℕ) → Stands facts (get_or ids j 0) at → f ≡ get_or facts at f → b ≡ h f
+        → new ≡ turned b (get_or ids j 0) own → new ≡ chosen (mixed g h (take (j + 1) ids)) facts
+    next_mixed at f b new s at_is test given =
+        given ∙ ap (turned b (get_or ids j 0)) is ∙ ap (λ (c : Bool). turned c (get_or ids j 0) (chosen (mixed g h (take j ids)) facts)) (test ∙ sym now)
+        ∙ turned_chosen (mixed g h (take j ids)) (mixed g h (take (j + 1) ids)) facts (get_or ids j 0) at f up s at_is
+        (λ i e within other. still (get_or facts i e).id (get_or facts i e) refl (λ t. other (sym t)))
+      where
+        now : mixed g h (take (j + 1) ids) f ≡ h f
+        now = ap (λ (c : Bool). cond c (h f) (g f)) (among_now ids j f.id lt (sym (ap (λ (e : Fact). e.id) at_is ∙ s.same f)))
+
+    pub same_mixed : (at : ℕ) → Belongs facts (get_or ids j 0) at → own ≡ chosen (mixed g h (take (j + 1) ids)) facts
+    same_mixed at b = is ∙ chosen_same (mixed g h (take j ids)) (mixed g h (take (j + 1) ids)) facts
+        (λ i e within. still (get_or facts i e).id (get_or facts i e) refl (λ t. nowhere facts (get_or ids j 0) at i e b within (sym t)))
+
+-- ---- what an entity saw before
+
+module _ (land : Land) (facts : List Fact) (sights : List Sight) (up : Ascend facts) (seen : AreSights land facts sights) (id at : ℕ) (own : List ℕ) where
+  pub saw : (s : Sight) (d : Fact) → Stands facts id at → s ≡ get_or sights at s → own ≡ s.ids.items → own ≡ view land facts (fact_with facts id)
+  saw s d there is given =
+      let w = get_or facts at d in
+      given ∙ ap ids_of is ∙ read_map ids_of (sight land facts) sights facts at s d seen there.within ∙ seen_is land w w.vision facts ∙
+      ap (view land facts) (sym (found_there facts id at d (rising facts up) there))
+
+  pub saw_none : Belongs facts id at → own ≡ [] → own ≡ view land facts (fact_with facts id)
+  saw_none b none = none ∙ sym (nobody facts) ∙ ap (view land facts) (not_there facts id at b)
+    where
+      nobody : (fs : List Fact) → view land fs None ≡ []
+      nobody [] = refl
+      nobody (f ∷ fs) = nobody fs
+
+-- what was kept of an entity that will be kept is what is found of its id
+pub in_view : (land : Land) (facts lent : List Fact) (before after : Option Fact) (ids : List ℕ) → lent ≡ facts
+    → IfSome after (λ (f : Fact). before ≡ fact_with facts f.id) → AreInView land lent before after ids
+    → IfSome after (λ (f : Fact). AreInView land lent (fact_with lent f.id) (Some f) ids)
+in_view land facts lent before None ids is found view = tt
+in_view land facts lent before (Some f) ids is found view = subst (λ (o : Option Fact). AreInView land lent o (Some f) ids)
+    (found ∙ ap (λ (fs : List Fact). fact_with fs f.id) (sym is)) view

@@ -1,6 +1,6 @@
 //! What all who look for entities are lent together, so that no call is handed a land, facts and buckets of different moments.
 
-ghost use Rattle.sim_range.specs.{Calling.AreSorted, Common.Holds};
+ghost use Rattle.sim_range.specs.{Common.Holds, Sights.AreSorted};
 
 use crate::bucket::Bucket;
 use sim_base::Land;

@@ -1,8 +1,8 @@
 //! Which buckets lie so near to both ends of a move that it changes nothing for those who stand in them: all of these see the
 //! entity before and after, as far as they see anybody.
 
-ghost use Rattle.std.specs.Prelude.{◌≡◌, ◌/◌, ◌<◌, ◌≤◌, ◌↔◌, ℤ, pos, ◌-ℤ◌, ◌≤ℤ◌, ◌<ℤ◌, IfSome, IsTrue, unsigned_abs};
-ghost use Rattle.sim_range.specs.{Areas.IsClose, Areas.IsInner, Calling.AreOnGround, Common.IsPlaced, Sights.HasOnlyMoved};
+ghost use Rattle.std.specs.Prelude.{IfSome, IsTrue, pos, unsigned_abs, ℤ, ◌-ℤ◌, ◌/◌, ◌<ℤ◌, ◌<◌, ◌↔◌, ◌≡◌, ◌≤ℤ◌, ◌≤◌};
+ghost use Rattle.sim_range.specs.{Common.IsPlaced, Sights.AreAbout, Sights.HasOnlyMoved, Sights.IsClose, Sights.IsInner};
 
 use sim_base::{Fixed, Point, square};
 use sim_system::Fact;
@@ -54,24 +54,17 @@ fn has_only_moved(from: &Fact, to: &Fact) -> bool
         && have_same_vision(from.vision, to.vision)
 }
 
-// Whether that is so, and all points of a bucket are at most so far from both places.
-fn is_between(number: usize, from: &Fact, to: &Fact, near: u32) -> bool
-    requires number { number < 256 }
-    requires from { IsPlaced from.now.at }
-    requires to { IsPlaced to.now.at }
-    ensures { IsTrue result → HasOnlyMoved from.now to.now × IsClose number near from.now.at × IsClose number near to.now.at }
-{
-    has_only_moved(from, to) && is_close(number, &from.at, near) && is_close(number, &to.at, near)
-}
-
 /// Whether an entity has only moved, and all points of a bucket are at most so far from where it was and from where it is.
 pub fn is_inner(number: usize, before: &Option<Fact>, after: &Option<Fact>, near: u32) -> bool
-    requires number { number < 256 }
-    requires ends { AreOnGround before.now after.now }
+    requires { AreAbout number before.now after.now }
     ensures { IsTrue result → IsInner number near before.now after.now }
 {
     match (before, after) {
-        (Some(from), Some(to)) => is_between(number, from, to, near),
+        (Some(from), Some(to)) => {
+            has_only_moved(from, to)
+                && is_close(number, &from.at, near)
+                && is_close(number, &to.at, near)
+        }
         _ => false,
     }
 }

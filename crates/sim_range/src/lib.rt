@@ -15,6 +15,7 @@
 //! - `ready`: a note, made ready and taken up.
 //! - `plan`: what a note changes of what is seen.
 //! - `area`: which buckets are looked into for it.
+//! - `span`: the rows and columns of these.
 //! - `inner`: which of these are passed over again.
 //! - `visions`: how far anybody sees.
 //! - `watchers`: who sees whom.
@@ -33,6 +34,7 @@ mod ready;
 mod seen;
 mod sight;
 mod sights;
+mod span;
 mod visions;
 mod watchers;
 mod within;

@@ -1,18 +1,16 @@
 //! What a note changes of what is seen: found in the buckets about the place where the entity stood and about that where it
 //! stands, before anything is changed.
 
-ghost use Rattle.std.specs.Prelude.{◌≡◌, ◌%◌, ◌<◌, false, ◌⊎◌, ◌++◌, length, IfSome, OnOk, Some, All};
-ghost use Rattle.sim_range.specs.{Areas.IsIn, Areas.IsInner, Common.fact_with, Common.IsHeld, Common.IsLand};
-ghost use Rattle.sim_range.specs.Calling.{AreHeldOn, AreOnGround};
-ghost use Rattle.sim_range.specs.Sights.{AreChanging, AreInView, AreSights, SeesFrom, SeesWithin, sight, turned_seen, turned_watchers, view};
+ghost use Rattle.std.specs.Prelude.{All, IfSome, OnOk, Some, ◌++◌, ◌≡◌};
+ghost use Rattle.sim_range.specs.Sights.{AreChanging, AreHeldOn, AreInView, AreOnGround, AreSights, SeesFrom, SeesWithin, sight, turned_seen, turned_watchers};
+ghost use Rattle.sim_range.specs.{Common.IsHeld, Common.fact_with, Sights.view};
 
-use crate::area::{Span, area_of};
+use crate::area::area_of;
 use crate::crowd::{Crowd, Held};
 use crate::inner::is_inner;
 use crate::sight::Sight;
 use crate::visions::Visions;
-use crate::watchers::{has_foes, is_seen, is_seen_by, sees};
-use sim_base::{Land, OutOfMemory};
+use sim_base::OutOfMemory;
 use sim_fact_lists::place_of;
 use sim_system::Fact;
 use std::alloc::Global;
@@ -39,29 +37,29 @@ impl Plan {
     // Adds those of these facts.
     fn push(
         &mut self,
-        land: &Land,
+        held: &Held<'_>,
         facts: &[Fact],
         before: &Option<Fact>,
         after: &Option<Fact>,
     ) -> Result<(), OutOfMemory>
-        requires limits { IsLand land.now }
-        requires held { All (IsHeld land.now) facts.now }
-        requires parts { AreHeldOn land.now before.now after.now }
-        ensures watchers { OnOk result (self.new.watchers.items ≡ self.old.watchers.items ++ turned_watchers land.now before.now after.now facts.now) }
-        ensures seen { OnOk result (self.new.seen.items ≡ self.old.seen.items ++ turned_seen land.now before.now after.now facts.now) }
+        requires held { All (IsHeld held.now.land.now) facts.now }
+        requires parts { AreHeldOn held.now.land.now before.now after.now }
+        ensures watchers { OnOk result (self.new.watchers.items ≡ self.old.watchers.items ++ turned_watchers held.now.land.now before.now after.now facts.now) }
+        ensures seen { OnOk result (self.new.seen.items ≡ self.old.seen.items ++ turned_seen held.now.land.now before.now after.now facts.now) }
     {
         for fact in facts {
-            if is_seen(land, fact, before) != is_seen(land, fact, after) {
+            if held.is_seen(fact, before) != held.is_seen(fact, after) {
                 self.watchers.push(fact.id)?;
             }
-            if sees(land, before, fact) != sees(land, after, fact) {
+            if held.sees(before, fact) != held.sees(after, fact) {
                 self.seen.push(fact.id)?;
             }
         }
         Ok(())
     }
 
-    /// Finds them.
+    /// Finds them. A note may change what is seen from a bucket, or who is seen in it, only where the bucket is in the area and is not so near
+    /// to both ends of a move that all see from it what they saw.
     pub fn find(
         &mut self,
         crowd: &Crowd<'_>,
@@ -81,14 +79,14 @@ impl Plan {
     {
         self.watchers.clear();
         self.seen.clear();
-        if !has_foes(crowd.held.land, before) && !has_foes(crowd.held.land, after) {
+        if !crowd.held.has_foes(before) && !crowd.held.has_foes(after) {
             return Ok(());
         }
         let area = area_of(before, after, visions.far);
         for number in area.rows.first * 16..area.rows.end * 16 {
-            if is_concerned(number, &area.columns, before, after, visions.near) {
+            if area.columns.has(number % 16) && !is_inner(number, before, after, visions.near) {
                 let facts = crowd.buckets[number].facts.as_slice();
-                self.push(crowd.held.land, facts, before, after)?;
+                self.push(&crowd.held, facts, before, after)?;
             }
         }
         Ok(())
@@ -119,22 +117,6 @@ impl Plan {
     }
 }
 
-// Whether a note may change what is seen from a bucket, or who is seen in it: its column is one of these, and it is not so near
-// to both ends of a move that all see from it what they saw.
-fn is_concerned(
-    number: usize,
-    columns: &Span,
-    before: &Option<Fact>,
-    after: &Option<Fact>,
-    near: u32,
-) -> bool
-    requires number { number < 256 }
-    requires ends { AreOnGround before.now after.now }
-    ensures { result ≡ false → (IsIn columns.now (number % 16) → ⊥) ⊎ IsInner number near before.now after.now }
-{
-    columns.has(number % 16) && !is_inner(number, before, after, near)
-}
-
 // Changes what an entity saw before into what it sees as this watcher, where it begins to see these or sees them no more.
 fn turn_own(
     own: &mut Sight,
@@ -150,7 +132,7 @@ fn turn_own(
     for id in seen {
         if let Ok(at) = place_of(held.facts, *id) {
             own.make_room()?;
-            own.turn(*id, is_seen_by(held.land, watcher, &held.facts[at]));
+            own.turn(*id, held.is_seen_by(watcher, &held.facts[at]));
         }
     }
     Ok(())

@@ -1,9 +1,9 @@
 //! The system: the place, owner, health and vision of each entity, and beside them buckets of ids by place, and whom each
 //! entity sees, where that is kept.
 
-ghost use Rattle.std.specs.Prelude.{◌≡◌, ◌<◌, true, false, ◌↔◌, [], length, IfSome, IfOk, OnOk, OnErr, IsSome, IsTrue, MatchOption, None};
-ghost use Rattle.sim_range.specs.{Bucketed.AreBuckets, Buckets.ArePlaced, Buckets.in_bucket, Keeping.AreKept};
-ghost use Rattle.sim_range.specs.Common.{AreInRange, built, cleared, counted, fact_with, IsLand, MayHear, Range as RangeKind, seen_among, told};
+ghost use Rattle.std.specs.Prelude.{[], false, IfOk, IfSome, IsSome, IsTrue, length, MatchOption, None, OnErr, OnOk, true, ◌<◌, ◌↔◌, ◌≡◌};
+ghost use Rattle.sim_range.specs.{Buckets.AreBuckets, Buckets.ArePlaced, Buckets.in_bucket, Common.AreInRange, Common.Range as RangeKind, Common.seen_among};
+ghost use Rattle.sim_range.specs.{Common.IsLand, Common.MayHear, Common.built, Common.cleared, Common.counted, Common.fact_with, Common.told, Sights.AreKept};
 
 use crate::bucket::Bucket;
 use crate::buckets::change;

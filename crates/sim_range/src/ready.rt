@@ -1,9 +1,9 @@
 //! A note in two steps: all that may want memory is made ready, and then it is taken up without any. So a note for which no
 //! memory is found leaves all as it was.
 
-ghost use Rattle.sim_range.specs.{Bucketed.AreBuckets, Bucketed.HaveRoom, Buckets.ArePlaced, Calling.Become, Calling.MayMakeReady};
-ghost use Rattle.sim_range.specs.{Common.fact_with, Common.IsHeld, Common.Land, Common.with_only, Keeping.AreKept, Keeping.AreReady};
-ghost use Rattle.std.specs.Prelude.{◌<◌, ◌≡◌, IfOk, IfSome, IsSome, IsTrue, length, OnOk, Some, vec_capacity, vec_len, ℕ};
+ghost use Rattle.std.specs.Prelude.{IfOk, IfSome, IsSome, IsTrue, length, OnOk, Some, vec_capacity, vec_len, ℕ, ◌<◌, ◌≡◌};
+ghost use Rattle.sim_range.specs.Sights.{AreKept, AreReady, Become, MayMakeReady};
+ghost use Rattle.sim_range.specs.{Buckets.AreBuckets, Buckets.ArePlaced, Buckets.HaveRoom, Common.IsHeld, Common.Land, Common.fact_with, Common.with_only};
 
 use crate::bucket::Bucket;
 use crate::buckets::{buckets_of, make_room};
@@ -65,7 +65,7 @@ impl Sights {
         let plan = &mut self.plan;
         plan.find(&crowd, &self.visions, before, after)?;
         plan.find_own(&held, self.all.as_slice(), after)?;
-        make_rooms(&mut self.all, facts, self.plan.watchers.as_slice())?;
+        make_rooms(&mut self.all, &held, self.plan.watchers.as_slice())?;
         self.all.reserve(1)?;
         Ok(())
     }

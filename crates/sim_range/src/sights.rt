@@ -2,12 +2,11 @@
 //! changes whether they see it.
 
 ghost use Rattle.std.specs.Prelude.{◌≡◌, ℕ, ◌<◌, map, length, IfSome, IfOk, OnOk, IsSome, IsTrue, slice_index_or, vec_len, vec_capacity};
-ghost use Rattle.sim_range.specs.Common.{Ascend, fact_with, IsHeld, IsStrictlyIncreasing, with_only};
-ghost use Rattle.sim_range.specs.Sights.{AreChanging, AreSights, HasPlace, HaveRooms, ids_at, ids_of, sight as sight_among, turned};
+ghost use Rattle.sim_range.specs.Common.{fact_with, IsHeld, IsStrictlyIncreasing, with_only};
+ghost use Rattle.sim_range.specs.Sights.{AreChanging, AreSights, HasPlace, HaveRooms, ids_at, ids_of, sight as sight_among, StayElsewhere, turned};
 
 use crate::crowd::{Crowd, Held};
 use crate::sight::Sight;
-use crate::watchers::is_seen;
 use sim_base::OutOfMemory;
 use sim_fact_lists::place_of;
 use sim_system::Fact;
@@ -27,10 +26,9 @@ pub fn sights_of(alloc: Global, crowd: &Crowd<'_>) -> Result<Vec<Sight>, OutOfMe
 // Makes room for one more in a sight.
 fn make_room_at(sights: &mut Vec<Sight>, at: usize) -> Result<(), OutOfMemory>
     requires within { at < length sights.old.items }
-    ensures along { length sights.new.items ≡ length sights.old.items }
+    ensures elsewhere { StayElsewhere at sights.old.items sights.new.items }
     ensures same { (k : ℕ) (d : Sight) → ids_at sights.new.items k d ≡ ids_at sights.old.items k d }
     ensures there { OnOk result ((d : Sight) → vec_len (slice_index_or sights.new.items at d).ids < vec_capacity (slice_index_or sights.new.items at d).ids) }
-    ensures others { (k : ℕ) (d : Sight) → (k ≡ at → ⊥) → slice_index_or sights.new.items k d ≡ slice_index_or sights.old.items k d }
 {
     sights[at].make_room()
 }
@@ -38,17 +36,16 @@ fn make_room_at(sights: &mut Vec<Sight>, at: usize) -> Result<(), OutOfMemory>
 /// Makes room for one more in the sights of these watchers.
 pub fn make_rooms(
     sights: &mut Vec<Sight>,
-    facts: &[Fact],
+    held: &Held<'_>,
     watchers: &[u32],
 ) -> Result<(), OutOfMemory>
-    requires ascending { Ascend facts.now }
-    requires along { length sights.old.items ≡ length facts.now }
+    requires along { length sights.old.items ≡ length held.now.facts.now }
     ensures along { length sights.new.items ≡ length sights.old.items }
     ensures same { (k : ℕ) (d : Sight) → ids_at sights.new.items k d ≡ ids_at sights.old.items k d }
-    ensures room { OnOk result (HaveRooms facts.now watchers.now sights.new.items) }
+    ensures room { OnOk result (HaveRooms held.now.facts.now watchers.now sights.new.items) }
 {
     for watcher in watchers {
-        if let Ok(at) = place_of(facts, *watcher) {
+        if let Ok(at) = place_of(held.facts, *watcher) {
             make_room_at(sights, at)?;
         }
     }
@@ -60,9 +57,8 @@ fn turn_at(sights: &mut Vec<Sight>, at: usize, id: u32, seen: bool)
     requires within { at < length sights.old.items }
     requires ascending { (d : Sight) → IsStrictlyIncreasing (ids_at sights.old.items at d) }
     requires room { (d : Sight) → IsTrue seen → HasPlace id (slice_index_or sights.old.items at d) }
-    ensures along { length sights.new.items ≡ length sights.old.items }
+    ensures elsewhere { StayElsewhere at sights.old.items sights.new.items }
     ensures there { (d : Sight) → ids_at sights.new.items at d ≡ turned seen id (ids_at sights.old.items at d) }
-    ensures others { (k : ℕ) (d : Sight) → (k ≡ at → ⊥) → slice_index_or sights.new.items k d ≡ slice_index_or sights.old.items k d }
     ensures room { vec_len sights.old < vec_capacity sights.old → vec_len sights.new < vec_capacity sights.new }
 {
     sights[at].turn(id, seen);
@@ -87,7 +83,7 @@ pub fn turn_all(
 {
     for watcher in watchers {
         if let Ok(at) = place_of(held.facts, *watcher) {
-            turn_at(sights, at, id, is_seen(held.land, &held.facts[at], after));
+            turn_at(sights, at, id, held.is_seen(&held.facts[at], after));
         }
     }
 }

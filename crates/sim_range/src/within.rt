@@ -2,10 +2,10 @@
 
 ghost use Rattle.std.specs.Prelude.{◌≡◌, ◌/◌, ◌<◌, ◌≤◌, ◌&&◌, ◌++◌, ℤ, pos, ◌-ℤ◌, ◌≤ℤ◌, IfOk, OnOk, IsTrue, unsigned_abs, All};
 ghost use Rattle.sim_range.specs.Buckets.{bucket_at};
-ghost use Rattle.sim_range.specs.Common.{in_mask as in_mask_of, is_inside, is_near as is_near_of, IsHeld, IsLand, IsPlaced, size_of, within_among};
+ghost use Rattle.sim_range.specs.Common.{in_mask as in_mask_of, is_inside, is_near as is_near_of, IsHeld, IsPlaced, size_of, within_among};
 
-use crate::crowd::Crowd;
-use sim_base::{Fixed, Ids, Land, OutOfMemory, Point, square};
+use crate::crowd::{Crowd, Held};
+use sim_base::{Fixed, Ids, OutOfMemory, Point, square};
 use sim_system::Fact;
 use std::alloc::Global;
 
@@ -34,15 +34,15 @@ fn is_near(p: &Point, q: &Point, radius: Fixed) -> bool
     square(*p, *q) <= reach * reach
 }
 
-/// Whether an entity has health, has a masked owner, and is near a point.
-#[tactic(auto, using(crate::proofs::Held::placed_on, crate::proofs::Held::owner_small))]
-pub fn is_within(land: &Land, fact: &Fact, at: &Point, radius: Fixed, mask: u32) -> bool
-    requires limits { IsLand land.now }
-    requires held { IsHeld land.now fact.now }
-    requires at { IsTrue (is_inside (size_of land.now) at.now) }
-    ensures { result ≡ (fact.now.health && in_mask_of mask fact.now.owner && is_near_of fact.now.at at.now radius) }
-{
-    fact.health && in_mask(mask, fact.owner) && is_near(&fact.at, at, radius)
+impl Held<'_> {
+    /// Whether an entity has health, has a masked owner, and is near a point.
+    pub fn is_within(&self, fact: &Fact, at: &Point, radius: Fixed, mask: u32) -> bool
+        requires held { IsHeld self.now.land.now fact.now }
+        requires at { IsTrue (is_inside (size_of self.now.land.now) at.now) }
+        ensures { result ≡ (fact.now.health && in_mask_of mask fact.now.owner && is_near_of fact.now.at at.now radius) }
+    {
+        fact.health && in_mask(mask, fact.owner) && is_near(&fact.at, at, radius)
+    }
 }
 
 /// A circle about a point, and the mask of the owners whose entities are looked for in it.
@@ -56,17 +56,16 @@ pub struct Circle {
 // Adds those of these facts that are looked for in a circle.
 fn push_near(
     ids: &mut Vec<u32>,
-    land: &Land,
+    held: &Held<'_>,
     facts: &[Fact],
     circle: &Circle,
 ) -> Result<(), OutOfMemory>
-    requires limits { IsLand land.now }
-    requires held { All (IsHeld land.now) facts.now }
-    requires at { IsTrue (is_inside (size_of land.now) circle.now.at) }
+    requires held { All (IsHeld held.now.land.now) facts.now }
+    requires at { IsTrue (is_inside (size_of held.now.land.now) circle.now.at) }
     ensures { OnOk result (ids.new.items ≡ ids.old.items ++ within_among facts.now circle.now.at circle.now.radius circle.now.mask) }
 {
     for fact in facts {
-        if is_within(land, fact, &circle.at, circle.radius, circle.mask) {
+        if held.is_within(fact, &circle.at, circle.radius, circle.mask) {
             ids.push(fact.id)?;
         }
     }
@@ -112,16 +111,15 @@ impl Crowd<'_> {
         ensures { IfOk result (λ ids. ids ≡ within_among self.now.held.facts.now circle.now.at circle.now.radius circle.now.mask) }
     {
         let reach = reach_of(circle.radius);
-        let land = self.held.land;
         let buckets = self.buckets;
         let mut ids = Vec::new(alloc);
         if self.is_crowded(&circle.at, reach) {
-            push_near(&mut ids, land, self.held.facts, circle)?;
+            push_near(&mut ids, &self.held, self.held.facts, circle)?;
             return Ok(Ids::from_items(ids));
         }
         for (number, bucket) in buckets.iter().enumerate() {
             if touches(number, &circle.at, reach) {
-                push_near(&mut ids, land, bucket.facts.as_slice(), circle)?;
+                push_near(&mut ids, &self.held, bucket.facts.as_slice(), circle)?;
             }
         }
         ids.sort_unstable();

@@ -1,7 +1,7 @@
 -- Worked examples of lists of digests, and of words that spell numbers.
-use Rattle.{sim_replay.specs.Apart.first_apart, sim_replay.specs.Words.naturals_of, std.proofs.Common.[], std.proofs.Common.◌∷◌}
-use Rattle.std.{proofs.Common.◌≡◌, proofs.Common.List, proofs.Common.None, proofs.Common.refl, proofs.Common.Some, proofs.Common.ℕ, specs.Prelude.codes}
-unfoldable use Rattle.sim_replay.specs.Words.{natural_of}
+use Rattle.std.proofs.Common.{[], List, None, refl, Some, ℕ, ◌∷◌, ◌≡◌}
+use Rattle.{sim_replay.specs.Apart.first_apart, sim_replay.specs.Logs.naturals_of, std.specs.Prelude.codes}
+unfoldable use Rattle.sim_replay.specs.Logs.{natural_of}
 
 -- of two turns that differ the first one is told
 two_turns : first_apart ((1 ∷ []) ∷ (2 ∷ []) ∷ (3 ∷ []) ∷ []) ((1 ∷ []) ∷ (5 ∷ []) ∷ (6 ∷ []) ∷ []) ≡ Some (record { turn = 1; told = 2 ∷ []; played = 5 ∷ [] })

@@ -1,11 +1,10 @@
 -- Numbers that are read fit, and so do commands with few ids.
-use Rattle.sim_replay.proofs.Common.{FitsSigned, Some, None, codes, bytes_eq, Option, option_map, option_and_then, AllByRecursion, and_parts, ap, arith, Attack}
-use Rattle.sim_replay.proofs.Common.{attack_of, behind_two, below, Command, command_by, command_of, CommandFits, Delete, digits_value, first_word, ids_in}
-use Rattle.sim_replay.proofs.Common.{ids_of, in_range, ints, is_raw, IsPoint, leb-true, ltb-true, magnitude_of, natural_below, natural_of, naturals_of}
-use Rattle.sim_replay.proofs.Common.{number_of, order_of, other_words, Place, place_of, PlayerCommand, Point, point_of, Resign, slice_split, starts_with, Stop}
-use Rattle.sim_replay.proofs.Common.{subst, Train, train_of, w32, Walk, walk_of}
-use Rattle.sim_replay.proofs.Common.{◌≡◌, ℕ, ◌^◌, ◌<◌, ◌≤◌, Bool, true, false, cond, ltb, leb, List, [], ◌∷◌, ◌++◌, drop, ℤ, pos, negsuc, neg_ℤ, nat_eq, ◌==◌}
-use Rattle.sim_replay.proofs.Options.{bound, mapped, passed}
+use Rattle.sim_replay.proofs.Common.{[], AllByRecursion, and_parts, ap, arith, Attack, attack_of, behind_two, below, Bool, bytes_eq, codes, Command, command_by}
+use Rattle.sim_replay.proofs.Common.{command_of, CommandFits, cond, Delete, digits_value, drop, false, first_word, FitsSigned, ids_in, ids_of, in_range, ints}
+use Rattle.sim_replay.proofs.Common.{is_raw, IsPoint, leb, leb-true, List, ltb, ltb-true, magnitude_of, nat_eq, natural_below, natural_of, naturals_of, neg_ℤ}
+use Rattle.sim_replay.proofs.Common.{negsuc, None, number_of, Option, option_and_then, option_map, order_of, other_words, Place, place_of, PlayerCommand, Point}
+use Rattle.sim_replay.proofs.Common.{point_of, pos, Resign, slice_split, Some, starts_with, Stop, subst, Train, train_of, true, w32, Walk, walk_of, ℕ, ℤ, ◌++◌}
+use Rattle.sim_replay.proofs.{Common.◌<◌, Common.◌==◌, Common.◌^◌, Common.◌∷◌, Common.◌≡◌, Common.◌≤◌, Cuts.bound, Cuts.mapped, Cuts.passed}
 
 -- ---- numbers
 

@@ -1,12 +1,8 @@
 pub mod Common
-pub mod Options
 pub mod Cuts
 pub mod Naturals
-pub mod PrintedWords
-pub mod PrintedCommands
 pub mod FittingCommands
 pub mod PrintedLines
-pub mod Taking
 pub mod Ending
 pub mod Whole
 pub mod Aparts

@@ -1,8 +1,8 @@
 -- What is read of bytes whose first line is known, or that have none.
-use Rattle.sim_replay.proofs.Common.{[], ◌+◌, ◌<◌, ◌==◌, ◌∙◌, ◌∷◌, ◌≡◌, ap, arith, bytes_eq, Err, false, header_line, length, length-slice_split, List, log_of}
-use Rattle.sim_replay.proofs.Common.{log_of_parts, LogFault, Meets, next_or_refused, nothing, Option, parts_of, read_parts, Reading, refl, Refused, Result}
-use Rattle.sim_replay.proofs.{Common.Setup, Common.sym, Common.taken, Common.ℕ, Whole.alone, Whole.behind_header, Whole.last_of, Whole.other_header, Whole.step}
-use Rattle.sim_replay.specs.{Meets.Tells, Reading.IsFirstLine, declared.fault.LogFault.TheVariants.OutOfMemory}
+use Rattle.sim_replay.proofs.Common.{[], ap, arith, bytes_eq, Err, false, header_line, length, length-slice_split, List, log_of, log_of_parts, LogFault, Meets}
+use Rattle.sim_replay.proofs.Common.{next_or_refused, nothing, Option, parts_of, read_parts, Reading, refl, Refused, Result, Setup, sym, taken, ℕ, ◌+◌, ◌<◌}
+use Rattle.sim_replay.proofs.{Common.◌==◌, Common.◌∙◌, Common.◌∷◌, Common.◌≡◌, Whole.alone, Whole.behind_header, Whole.last_of, Whole.other_header, Whole.step}
+use Rattle.sim_replay.specs.{Logs.IsFirstLine, Meets.Tells, declared.fault.LogFault.TheVariants.OutOfMemory}
 
 -- bytes have a part at least
 some_part : (bytes : List ℕ) → 0 < length (parts_of bytes)

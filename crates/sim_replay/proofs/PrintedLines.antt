@@ -1,13 +1,13 @@
 -- A line is read as what it is printed of, and what is read of a line is printed so.
-use Rattle.sim_replay.proofs.{FittingCommands.order_of-fits, PrintedCommands.order_of-text, PrintedCommands.plain-command, PrintedCommands.plain-decimal}
-use Rattle.sim_replay.proofs.Common.{Ok, Err, codes, bytes_eq, decimal, Result, refl, and_from, and_parts, ap, append_assoc, arith, behind, bytes_eq-Decides}
-use Rattle.sim_replay.proofs.Common.{command_text, CommandFits, cond-true, decode_of-ok, decode_sized, decode_sized-encode_lower, decode_sized-ok}
-use Rattle.sim_replay.proofs.Common.{decode_sized-twice, digest_front, digest_in, digest_line, digest_of, encode_lower, encode_with, FromHexError, header_line}
-use Rattle.sim_replay.proofs.Common.{ids_in, is_utf8, is_utf8-from_IsUtf8, IsDigest, IsUtf8-from_ascii, list_all, lower_digits, order_front, order_in}
-use Rattle.sim_replay.proofs.Common.{order_line, order_of, PlayerCommand, result_ok, Setup, spelled, subst, sym, text_in, ◌∙◌}
-use Rattle.sim_replay.proofs.Common.{◌≡◌, ℕ, zero, suc, ◌*◌, ◌/◌, ◌%◌, ◌^◌, ◌<◌, ◌≤◌, true, List, [], ◌∷◌, ◌++◌, length, slice_index, Some, None}
-use Rattle.sim_replay.proofs.Cuts.{all-append, all-weaker, behind-append, is_inner, is_plain, plain_is_ascii, plain_is_inner}
-use Rattle.{sim_base.proofs.Lists.bytes_eq-same, sim_replay.proofs.Options.bind_some, sim_replay.proofs.Options.bound, sim_replay.proofs.Options.passed}
+use Rattle.sim_base.proofs.Lists.{bytes_eq-same}
+use Rattle.sim_replay.proofs.Common.{[], and_from, and_parts, ap, append_assoc, arith, behind, bytes_eq, bytes_eq-Decides, codes, command_text, CommandFits}
+use Rattle.sim_replay.proofs.Common.{cond-true, decimal, decode_of-ok, decode_sized, decode_sized-encode_lower, decode_sized-ok, decode_sized-twice}
+use Rattle.sim_replay.proofs.Common.{digest_front, digest_in, digest_line, digest_of, encode_lower, encode_with, Err, FromHexError, header_line, ids_in}
+use Rattle.sim_replay.proofs.Common.{is_utf8, is_utf8-from_IsUtf8, IsDigest, IsUtf8-from_ascii, length, List, list_all, lower_digits, None, Ok, order_front}
+use Rattle.sim_replay.proofs.Common.{order_in, order_line, order_of, PlayerCommand, refl, Result, result_ok, Setup, slice_index, Some, spelled, subst, suc, sym}
+use Rattle.sim_replay.proofs.Common.{text_in, true, zero, ℕ, ◌%◌, ◌*◌, ◌++◌, ◌/◌, ◌<◌, ◌^◌, ◌∙◌, ◌∷◌, ◌≡◌, ◌≤◌}
+use Rattle.sim_replay.proofs.Cuts.{all-append, all-weaker, behind-append, bind_some, bound, is_inner, is_plain, order_of-text, passed, plain-command}
+use Rattle.sim_replay.proofs.{Cuts.plain-decimal, Cuts.plain_is_ascii, Cuts.plain_is_inner, FittingCommands.order_of-fits}
 
 -- ---- the spelling
 

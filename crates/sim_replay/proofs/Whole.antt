@@ -1,16 +1,15 @@
 -- Bytes that are read are the text of the log, and those that are refused are the text of none.
-use Rattle.sim_replay.proofs.{Cuts.inner_is_no_end, Cuts.is_inner, Cuts.split_first, Taking.spells-nothing}
-use Rattle.sim_replay.proofs.{Options.bind_none, Options.bind_some, PrintedLines.inner-digest_line, PrintedLines.inner-header, PrintedLines.inner-order_line}
-use Rattle.sim_replay.proofs.Common.{All-nil, All-tail, All-weaker, ap, append-nil, append_assoc, AreOrders, arith, BeginsLog, bytes_eq-Decides, cases_lt}
-use Rattle.sim_replay.proofs.Common.{Reading, Setup, subst, sym, take-append-drop, take-append_seam, take-take, take_all, taken, text_of_log}
-use Rattle.sim_replay.proofs.Common.{cond-false, cond-true, digest_line, ended, eqb-true, false≢true, header_line, inl, inr, IsLog, IsOrder, IsRefusedAt}
-use Rattle.sim_replay.proofs.Common.{drop, ◌==◌, Some, None, Ok, Err, bytes_eq, All, flat_map, Option, Result, refl, All-append, All-cons, All-head, All-map}
-use Rattle.sim_replay.proofs.Common.{join_with_byte, join_with_byte-slice_split, length-append, length-slice_split, lines_from, list_all, Log, log_in}
-use Rattle.sim_replay.proofs.Common.{log_lines, log_of, log_of_parts, next_or_refused, nothing, or_refused, order_line, parts_of, PlayerCommand, read_parts}
-use Rattle.sim_replay.proofs.Common.{turn_lines, whole_lines, ◌>>=◌, ◌∙◌}
-use Rattle.sim_replay.proofs.Common.{◌≡◌, ℕ, zero, suc, ◌+◌, ◌-◌, ◌^◌, ◌<◌, ◌≤◌, Bool, true, false, cond, List, [], ◌∷◌, ◌++◌, map, length, take}
-use Rattle.sim_replay.proofs.Ending.{begins-read, between, ends-log, Front, front, log-taken, log_in-log, Small, spells-all, taken_all}
 use Rattle.sim_base.proofs.Lists.{bytes_eq-same}
+use Rattle.sim_replay.proofs.Common.{All, bytes_eq-Decides, join_with_byte-slice_split, length-slice_split, next_or_refused, take-append-drop, take-append_seam}
+use Rattle.sim_replay.proofs.Common.{All-append, All-weaker, append-nil, cond-false, false≢true, lines_from, or_refused, order_line, text_of_log, whole_lines}
+use Rattle.sim_replay.proofs.Common.{All-cons, All-head, All-tail, BeginsLog, Bool, bytes_eq, cases_lt, cond-true, log_lines, read_parts, take-take, turn_lines}
+use Rattle.sim_replay.proofs.Common.{All-map, All-nil, eqb-true, Err, flat_map, IsOrder, length, list_all, log_in, log_of, nothing, parts_of, Reading, take_all}
+use Rattle.sim_replay.proofs.Common.{[], arith, cond, drop, ended, false, IsLog, List, None, Option, refl, Result, Setup, Some, subst, take, taken, true, ◌>>=◌}
+use Rattle.sim_replay.proofs.Common.{ap, inl, inr, Log, map, Ok, suc, sym, zero, ℕ, ◌++◌, ◌+◌, ◌-◌, ◌<◌, ◌==◌, ◌^◌, ◌∙◌, ◌∷◌, ◌≡◌, ◌≤◌}
+use Rattle.sim_replay.proofs.Common.{append_assoc, AreOrders, digest_line, header_line, IsRefusedAt, join_with_byte, length-append, log_of_parts, PlayerCommand}
+use Rattle.sim_replay.proofs.Cuts.{bind_none, bind_some, inner_is_no_end, is_inner, split_first}
+use Rattle.sim_replay.proofs.Ending.{begins-read, between, ends-log, front, Front, log-taken, log_in-log, Small, spells-all, spells-nothing, taken_all}
+use Rattle.sim_replay.proofs.PrintedLines.{inner-digest_line, inner-header, inner-order_line}
 
 -- ---- the parts of a text of lines
 

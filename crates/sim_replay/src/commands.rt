@@ -1,17 +1,17 @@
 //! A command as it is read, in any spelling: the words that every command of a kind has are passed over. A line is
 //! taken later, where it is printed so.
 
-ghost use Rattle.std.specs.Prelude.{◌≡◌, ◌^◌, IfOk};
-ghost use Rattle.sim_replay.specs.{Commands.walk_of as walk_of_text, Words.natural_below};
-ghost use Rattle.sim_replay.specs.Commands.{attack_of as attack_of_text, behind_two as behind_two_words, command_by as command_by_kind};
-ghost use Rattle.sim_replay.specs.Commands.{order_of as order_of_text, place_of as place_of_text, point_of as point_of_text, train_of as train_of_text};
+ghost use Rattle.std.specs.Prelude.{IfOk, ◌^◌, ◌≡◌};
+ghost use Rattle.sim_replay.specs.Logs.{attack_of as attack_of_text, behind_two as behind_two_words, command_by as command_by_kind, natural_below};
+ghost use Rattle.sim_replay.specs.Logs.{order_of as order_of_text, place_of as place_of_text, point_of as point_of_text, train_of as train_of_text};
+ghost use Rattle.sim_replay.specs.Logs.{walk_of as walk_of_text};
 
 use crate::words::{cut, ids_of, natural};
 use sim_base::{Command, Fixed, OutOfMemory, PlayerCommand, Point};
 use std::alloc::Global;
 
 /// A player, and what it commands.
-#[tactic(auto, unfolding(crate::specs::Commands::order_of))]
+#[tactic(auto, unfolding(crate::specs::Logs::order_of))]
 pub fn order_of(alloc: Global, text: &str) -> Result<Option<PlayerCommand>, OutOfMemory>
     ensures { IfOk result (λ order. order ≡ order_of_text text.now) }
 {
@@ -26,7 +26,7 @@ pub fn order_of(alloc: Global, text: &str) -> Result<Option<PlayerCommand>, OutO
     }
 }
 
-#[tactic(auto, unfolding(crate::specs::Commands::command_by))]
+#[tactic(auto, unfolding(crate::specs::Logs::command_by))]
 fn command_by(alloc: Global, kind: &str, text: &str) -> Result<Option<Command>, OutOfMemory>
     ensures { IfOk result (λ command. command ≡ command_by_kind kind.now text.now) }
 {
@@ -54,7 +54,7 @@ fn command_by(alloc: Global, kind: &str, text: &str) -> Result<Option<Command>, 
     Ok(None)
 }
 
-#[tactic(auto, unfolding(crate::specs::Commands::walk_of))]
+#[tactic(auto, unfolding(crate::specs::Logs::walk_of))]
 fn walk_of(alloc: Global, text: &str) -> Result<Option<Command>, OutOfMemory>
     ensures { IfOk result (λ command. command ≡ walk_of_text text.now) }
 {
@@ -67,7 +67,7 @@ fn walk_of(alloc: Global, text: &str) -> Result<Option<Command>, OutOfMemory>
     Ok(Some(Command::Walk { ids, to }))
 }
 
-#[tactic(auto, unfolding(crate::specs::Commands::attack_of))]
+#[tactic(auto, unfolding(crate::specs::Logs::attack_of))]
 fn attack_of(alloc: Global, text: &str) -> Result<Option<Command>, OutOfMemory>
     ensures { IfOk result (λ command. command ≡ attack_of_text text.now) }
 {
@@ -80,7 +80,7 @@ fn attack_of(alloc: Global, text: &str) -> Result<Option<Command>, OutOfMemory>
     Ok(Some(Command::Attack { ids, target }))
 }
 
-#[tactic(auto, unfolding(crate::specs::Commands::place_of))]
+#[tactic(auto, unfolding(crate::specs::Logs::place_of))]
 fn place_of(text: &str) -> Option<Command>
     ensures { result ≡ place_of_text text.now }
 {
@@ -89,7 +89,7 @@ fn place_of(text: &str) -> Option<Command>
     Some(Command::Place { template, at })
 }
 
-#[tactic(auto, unfolding(crate::specs::Commands::train_of))]
+#[tactic(auto, unfolding(crate::specs::Logs::train_of))]
 fn train_of(text: &str) -> Option<Command>
     ensures { result ≡ train_of_text text.now }
 {
@@ -106,7 +106,7 @@ fn behind_two(text: &str) -> &str
     cut(cut(text).1).1
 }
 
-#[tactic(auto, unfolding(crate::specs::Commands::point_of))]
+#[tactic(auto, unfolding(crate::specs::Logs::point_of))]
 fn point_of(text: &str) -> Option<Point>
     ensures { result ≡ point_of_text text.now }
 {

@@ -1,7 +1,7 @@
 //! The lines of a log, each printed without the line feed at its end.
 
-ghost use Rattle.std.specs.Prelude.{◌≡◌, ◌++◌, OnOk, string_bytes, decimal};
-ghost use Rattle.sim_replay.specs.Lines.{digest_front, digest_line, header_line, order_front};
+ghost use Rattle.std.specs.Prelude.{decimal, OnOk, string_bytes, ◌++◌, ◌≡◌};
+ghost use Rattle.sim_replay.specs.Logs.{digest_front, digest_line, header_line, order_front};
 
 use sim_base::{OutOfMemory, Setup, push_decimal};
 use sim_bytes::push_hex;

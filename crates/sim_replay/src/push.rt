@@ -1,7 +1,7 @@
 //! A whole log, printed.
 
-ghost use Rattle.std.specs.Prelude.{◌≡◌, ◌≤◌, ◌++◌, map, length, take, OnOk, OnErr, flat_map};
-ghost use Rattle.sim_replay.specs.{Lines.digest_line, Lines.header_line, Lines.order_line, Logs.ended, Logs.IsOfTurns, Logs.lines_from, Logs.text_of_log};
+ghost use Rattle.std.specs.Prelude.{flat_map, length, map, OnErr, OnOk, take, ◌++◌, ◌≡◌, ◌≤◌};
+ghost use Rattle.sim_replay.specs.Logs.{digest_line, ended, header_line, IsOfTurns, lines_from, order_line, text_of_log};
 
 use crate::lines::{push_digest_line, push_header};
 use crate::log::{Log, Orders};

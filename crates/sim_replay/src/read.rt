@@ -1,8 +1,9 @@
 //! A whole log, read: the line that names the match first, and then line by line.
 
-ghost use Rattle.std.specs.{List.position, Prelude.◌≡◌, Prelude.ℕ, Prelude.◌^◌, Prelude.◌<◌, Prelude.[], Prelude.◌∷◌, Prelude.◌==◌, Prelude.IfOk, Prelude.MatchOption};
-ghost use Rattle.sim_replay.specs.{Meets.Meets, Reading.IsFirstLine, Reading.log_of as log_of_bytes, Reading.nothing, Reading.read_parts, declared.log.Log.Log};
-ghost use Rattle.sim_replay.specs.Logs.{IsLog, IsRefusedAt, parts_of, text_of_log};
+ghost use Rattle.std.specs.List.{position};
+ghost use Rattle.std.specs.Prelude.{[], IfOk, MatchOption, ℕ, ◌<◌, ◌==◌, ◌^◌, ◌∷◌, ◌≡◌};
+ghost use Rattle.sim_replay.specs.Logs.{IsFirstLine, IsLog, IsRefusedAt, log_of as log_of_bytes, nothing, parts_of, read_parts, text_of_log};
+ghost use Rattle.sim_replay.specs.{Meets.Meets, declared.log.Log.Log};
 
 use crate::fault::{LogFault, refused};
 use crate::log::Log;

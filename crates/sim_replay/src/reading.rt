@@ -1,8 +1,7 @@
 //! What was read of a log so far.
 
-ghost use Rattle.std.specs.Prelude.{◌≡◌, length, IfOk, if◌then◌else◌, nat_lt, count_by};
-ghost use Rattle.sim_replay.specs.Logs.{is_by};
-ghost use Rattle.sim_replay.specs.Reading.{ids_in as ids_in_command, log_in, may_have, nothing, taken, taken_order, taken_other, with_digest, with_order};
+ghost use Rattle.std.specs.Prelude.{count_by, IfOk, if◌then◌else◌, length, nat_lt, ◌≡◌};
+ghost use Rattle.sim_replay.specs.Logs.{ids_in as ids_in_command, is_by, log_in, may_have, nothing, taken, taken_order, taken_other, with_digest, with_order};
 
 use crate::log::{Digests, Log, Orders, Turns};
 use crate::spelled::{digest_in, order_in};
@@ -30,7 +29,7 @@ impl Reading {
     }
 
     /// What is read after this line, or None where no log goes on with it.
-    #[tactic(auto, unfolding(crate::specs::Reading::taken))]
+    #[tactic(auto, unfolding(crate::specs::Logs::taken))]
     pub fn after(
         self,
         alloc: Global,
@@ -89,7 +88,7 @@ impl Reading {
     }
 
     // Whether the player is one of the match, names few ids, and has fewer than 64 commands in the turn.
-    #[tactic(auto, unfolding(crate::specs::Reading::may_have))]
+    #[tactic(auto, unfolding(crate::specs::Logs::may_have))]
     fn may_have(&self, setup: &Setup, order: &PlayerCommand) -> bool
         ensures { result ≡ may_have setup.now self.now.orders order.now }
     {

@@ -1,8 +1,8 @@
 //! A line that is taken only as it is printed: it is read in any spelling, printed, and compared.
 
-ghost use Rattle.std.specs.{Prelude.◌≡◌, Prelude.IfOk, Prelude.option_map, Str.bytes_eq};
-ghost use Rattle.sim_replay.specs.Lines.{digest_line, header_line, order_line};
-ghost use Rattle.sim_replay.specs.Reading.{digest_in as digest_in_line, digest_of as digest_of_text, order_in as order_in_line, spelled, text_in as text_in_bytes};
+ghost use Rattle.std.specs.{Prelude.IfOk, Prelude.option_map, Prelude.◌≡◌, Str.bytes_eq};
+ghost use Rattle.sim_replay.specs.Logs.{digest_in as digest_in_line, digest_line, digest_of as digest_of_text, header_line, order_in as order_in_line};
+ghost use Rattle.sim_replay.specs.Logs.{order_line, spelled, text_in as text_in_bytes};
 
 use crate::commands::order_of;
 use crate::lines::{push_digest_front, push_digest_line, push_header, push_order_front};
@@ -21,7 +21,7 @@ pub fn is_header(alloc: Global, setup: &Setup, line: &[u8]) -> Result<bool, OutO
 }
 
 /// The digest of the line that ends a turn.
-#[tactic(auto, unfolding(crate::specs::Reading::digest_in))]
+#[tactic(auto, unfolding(crate::specs::Logs::digest_in))]
 pub fn digest_in(alloc: Global, turn: u32, line: &[u8]) -> Result<Option<[u8; 16]>, OutOfMemory>
     ensures { IfOk result (λ digest. digest ≡ digest_in_line turn line.now) }
 {
@@ -65,7 +65,7 @@ fn spelled_digest(
 }
 
 /// The command of a turn's line.
-#[tactic(auto, unfolding(crate::specs::Reading::order_in))]
+#[tactic(auto, unfolding(crate::specs::Logs::order_in))]
 pub fn order_in(alloc: Global, turn: u32, line: &[u8]) -> Result<Option<PlayerCommand>, OutOfMemory>
     ensures { IfOk result (λ order. order ≡ order_in_line turn line.now) }
 {

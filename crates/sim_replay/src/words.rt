@@ -1,8 +1,8 @@
 //! Words and whole numbers of a text. A number is read in any spelling: which one is printed is seen later.
 
-ghost use Rattle.std.specs.{List.list_all, List.slice_split, Prelude.◌≡◌, Prelude.[], Prelude.map, Prelude.IfOk, Prelude.◌==◌, Prelude.option_map};
+ghost use Rattle.std.specs.{List.list_all, List.slice_split, Prelude.IfOk, Prelude.[], Prelude.map, Prelude.option_map, Prelude.◌==◌, Prelude.◌≡◌};
 ghost use Rattle.sim_base.specs.NumberText.{is_digit};
-ghost use Rattle.sim_replay.specs.Words.{behind as behind_front, first_word, ids_of as ids_of_text, natural_of, naturals_of, other_words, word_text};
+ghost use Rattle.sim_replay.specs.Logs.{behind as behind_front, first_word, ids_of as ids_of_text, natural_of, naturals_of, other_words, word_text};
 
 use sim_base::{Ids, Items, OutOfMemory};
 use std::alloc::{AllocError, Global};
@@ -26,7 +26,7 @@ pub fn cut(text: &str) -> (&str, &str)
 }
 
 /// The number that decimal digits spell.
-#[tactic(auto, unfolding(crate::specs::Words::natural_of))]
+#[tactic(auto, unfolding(crate::specs::Logs::natural_of))]
 pub fn natural(text: &str) -> Option<u32>
     ensures { result ≡ natural_of text.now }
 {
@@ -44,7 +44,7 @@ fn all_digits(text: &str) -> bool
 }
 
 /// The ids of a text: numbers between commas, or a dash for none.
-#[tactic(auto, unfolding(crate::specs::Words::ids_of))]
+#[tactic(auto, unfolding(crate::specs::Logs::ids_of))]
 pub fn ids_of(alloc: Global, text: &str) -> Result<Option<Ids>, OutOfMemory>
     ensures { IfOk result (λ ids. ids ≡ ids_of_text text.now) }
 {

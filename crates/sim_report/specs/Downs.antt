@@ -1,10 +1,9 @@
 -- The messages of the server as text, and the lines of what it has come to.
-use Rattle.std.specs.Prelude.{ℕ, List, [], ◌∷◌, ◌++◌, length, codes, decimal, flat_map}
-use Rattle.sim_base.specs.declared.command.{Command.Command, PlayerCommand.PlayerCommand}
-use Rattle.sim_plain.specs.declared.message.{DownOf.DownOf, PostOf.PostOf}
-use Rattle.sim_plain.specs.declared.message.DownOf.TheVariants.{Ask, Command as OfTurn, Notice, Refused, Release, State}
-use Rattle.sim_report.specs.{Lines.report_kind, Show.point_text}
 use Rattle.sim_base.specs.declared.command.Command.TheVariants as command
+use Rattle.sim_plain.specs.declared.message.DownOf.TheVariants.{Ask, Command as OfTurn, Notice, Refused, Release, State}
+use Rattle.std.specs.Prelude.{List, [], codes, decimal, flat_map, length, ℕ, ◌++◌, ◌∷◌}
+use Rattle.{sim_base.specs.declared.command.Command.Command, sim_base.specs.declared.command.PlayerCommand.PlayerCommand, sim_report.specs.Lines.report_kind}
+use Rattle.{sim_plain.specs.declared.message.DownOf.DownOf, sim_plain.specs.declared.message.PostOf.PostOf, sim_report.specs.Show.point_text}
 
 -- a comma and an id
 abbrev pub next_id : ℕ → List ℕ

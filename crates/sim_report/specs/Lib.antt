@@ -1,10 +1,7 @@
 pub mod Appending
-pub mod Events
 pub mod Lines
-pub mod LogLines
 pub mod Places
 pub mod Refusals
 pub mod Show
 pub mod Downs
 pub mod Parts
-pub mod Ways

@@ -1,7 +1,8 @@
 -- A state as text: a line of its clock, and a line of each row with the parts that the row has.
-use Rattle.std.specs.Prelude.{ℕ, ◌<◌, Bool, List, [], ◌++◌, length, ℤ, if◌then◌else◌, Some, None, codes, decimal, flat_map, Option, unwrap_or, option_map}
-use Rattle.sim_base.specs.{NumberText.text_of, Rows.template_of, declared.place.Point.Point, declared.setup.Setup.Setup, declared.template.Template.Template}
-use Rattle.sim_base.specs.declared.state.{Aim.Aim, Motion.Motion, Motion.TheVariants.Going, Motion.TheVariants.Still, Row.Row, State.State}
+use Rattle.sim_base.specs.declared.template.Template.{Template}
+use Rattle.sim_base.specs.declared.{place.Point.Point, setup.Setup.Setup, state.Aim.Aim, state.Motion.Motion, state.Motion.TheVariants.Going}
+use Rattle.sim_base.specs.{NumberText.text_of, Rows.template_of, declared.state.Motion.TheVariants.Still, declared.state.Row.Row, declared.state.State.State}
+use Rattle.std.specs.Prelude.{[], Bool, codes, decimal, flat_map, if◌then◌else◌, length, List, None, Option, option_map, Some, unwrap_or, ℕ, ℤ, ◌++◌, ◌<◌, ◌∷◌}
 
 -- the match has the row's template
 abbrev pub HasTemplate : Setup → Row → Type 0
@@ -62,3 +63,27 @@ row_line setup row =
 -- a state of a match
 abbrev pub show_text : Setup → State → List ℕ
 show_text setup state = clock_line state ++ flat_map (row_line setup) state.rows
+
+-- The ways of the rows of a state as text: a line for each row that has waypoints ahead.
+
+-- a waypoint behind a space
+abbrev pub next_point : Point → List ℕ
+next_point point = codes " " ++ point_text point
+
+-- the waypoints that are still to be reached, in order
+abbrev pub way_ahead : Option Motion → List Point
+way_ahead (Some (Going goal way whole)) = way
+way_ahead other = []
+
+-- who goes and along which waypoints, or nothing for none
+abbrev pub way_line : ℕ → List Point → List ℕ
+way_line id [] = []
+way_line id (point ∷ points) = codes "way " ++ (decimal id ++ (flat_map next_point (point ∷ points) ++ codes "\n"))
+
+-- the line of a row
+abbrev pub row_way : Row → List ℕ
+row_way row = way_line row.id (way_ahead row.motion)
+
+-- those of a state, its rows ascending by id
+abbrev pub ways_text : State → List ℕ
+ways_text state = flat_map row_way state.rows

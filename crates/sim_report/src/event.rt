@@ -2,7 +2,7 @@
 
 ghost use Rattle.std.specs.Prelude.{◌++◌};
 ghost use Rattle.sim_report.specs.Appending.{Appends, AppendsInParts};
-ghost use Rattle.sim_report.specs.{Events.client_text, Events.event_line, Events.notice_line, Events.number_line, Lines.turn_line};
+ghost use Rattle.sim_report.specs.Lines.{client_text, event_line, notice_line, number_line, turn_line};
 
 use crate::line::{append_number, append_turn, report_kind};
 use sim_base::{Event, OutOfMemory};

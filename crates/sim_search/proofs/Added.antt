@@ -1,8 +1,8 @@
 -- Cells that are added to a list one after another, and those that are gone through.
-use Rattle.sim_search.proofs.Common.{[], ◌++◌, ◌+◌, ◌<◌, ◌∙◌, ◌∷◌, ◌≡◌, ◌≤◌, ◌⊎◌, All, alone, ap, arith, Bool, Cell, Contains, Contains-append_left}
-use Rattle.sim_search.proofs.Common.{Contains-push, Contains-push_cases, eq-or-lt_of_le, eqb-true, false, Field, inl, inr, IsJoined, IsOnGround, IsOpenStep}
-use Rattle.sim_search.proofs.Common.{length, List, neighbour, Some, subst, suc, sym, take, take_all, true, true≢false, zero, ℕ}
-use Rattle.{sim_search.specs.Mending.AreAdded, sim_search.specs.Mending.IsInside, sim_search.specs.declared.region.Window.Window, std.specs.Prelude.◌==◌}
+use Rattle.sim_search.proofs.Common.{[], All, alone, ap, arith, Bool, Cell, Contains, Contains-append_left, Contains-push, Contains-push_cases, eq-or-lt_of_le}
+use Rattle.sim_search.proofs.Common.{eqb-true, false, Field, inl, inr, IsJoined, IsOnGround, IsOpenStep, length, List, neighbour, Some, subst, suc, sym, take}
+use Rattle.sim_search.proofs.Common.{take_all, true, true≢false, zero, ℕ, ◌++◌, ◌+◌, ◌<◌, ◌∙◌, ◌∷◌, ◌≡◌, ◌≤◌, ◌⊎◌}
+use Rattle.{sim_search.specs.Floods.AreAdded, sim_search.specs.Floods.IsInside, sim_search.specs.declared.region.Window.Window, std.specs.Prelude.◌==◌}
 
 -- those in the directions before one
 pub record Adding (field : Field) (w : Window) (from : Cell) (old new : List Cell) (n : ℕ) : Type 0 where

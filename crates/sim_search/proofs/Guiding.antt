@@ -1,12 +1,12 @@
 -- Why landmarks and distances guide a search: the least costs from an open cell differ along a step by no more than it costs, and so do the
 -- rows and numbers.
-use Rattle.sim_search.proofs.Moves.{direction-of, even_step, free-of_walk, free-open, most_step, step_back}
-use Rattle.{sim_search.proofs.Octile.estimate-guides, std.proofs.lemmas.List.length-set, std.proofs.lemmas.Option.same_Some}
-use Rattle.sim_search.proofs.Common.{◌≡◌, ℕ, zero, suc, ◌+◌, ◌*◌, ◌%◌, ◌<◌, ◌≤◌, max, true, ◌&&◌, ◌||◌, ◌⊎◌, List, length, get_or, set, replicate}
-use Rattle.sim_search.proofs.Common.{Bool, Some, None, Option, refl, abs_diff, is_some, true≢false, Aim, ap, ap₂, AreCosts, arith, cases_eq, cases_lt, Cell}
-use Rattle.sim_search.proofs.Common.{estimate_to, Field, get_or-set_other, get_or-set_same, go, HasCost, inl, inr, IsGuide}
-use Rattle.sim_search.proofs.Common.{is_free, is_straight, IsOnGround, IsStep, length-replicate, stay, subst, sym, Walk, walk-on, ◌∙◌}
-use Rattle.sim_search.specs.{Distances.AreDistances, Rows.alike, Rows.apart, Rows.AreLandmarks, Rows.between, Rows.half_of, Rows.number_of, Rows.row_with}
+use Rattle.sim_search.proofs.Common.{abs_diff, Aim, ap, ap₂, AreCosts, arith, Bool, cases_eq, cases_lt, Cell, estimate_to, Field, get_or, get_or-set_other}
+use Rattle.sim_search.proofs.Common.{get_or-set_same, go, HasCost, inl, inr, is_free, is_some, is_straight, IsGuide, IsOnGround, IsStep, length}
+use Rattle.sim_search.proofs.Common.{length-replicate, List, max, None, Option, refl, replicate, set, Some, stay, subst, suc, sym, true, true≢false, Walk}
+use Rattle.sim_search.proofs.Common.{walk-on, zero, ℕ, ◌%◌, ◌&&◌, ◌*◌, ◌+◌, ◌<◌, ◌||◌, ◌∙◌, ◌≡◌, ◌≤◌, ◌⊎◌}
+use Rattle.sim_search.proofs.Moves.{direction-of, estimate-guides, even_step, free-of_walk, free-open, most_step, step_back}
+use Rattle.sim_search.specs.Rows.{alike, apart, AreDistances, AreLandmarks, between, half_of, number_of, row_with}
+use Rattle.std.proofs.lemmas.{List.length-set, Option.same_Some}
 
 turned-near : (a b k : ℕ) → 2 * abs_diff a b ≤ k → 2 * abs_diff b a ≤ k
 turned-near a b k h = omega (arith, h)

@@ -1,14 +1,11 @@
 pub mod Common
-pub mod Cells
+pub mod Rows
 pub mod Taking
 pub mod Coming
 pub mod Draining
 pub mod Moves
-pub mod Octile
-pub mod Rows
 pub mod Guiding
 pub mod Beginning
 pub mod Regions
 pub mod Floods
-pub mod Mending
 pub mod Added

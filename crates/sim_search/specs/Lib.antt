@@ -1,15 +1,6 @@
 pub mod Common
-pub mod Tables
-pub mod NumberTables
+pub mod Queues
+pub mod Floods
 pub mod Moves
 pub mod Estimates
-pub mod Taking
-pub mod Queues
-pub mod Comes
-pub mod Regions
-pub mod RegionLaws
-pub mod Floods
-pub mod TakingLaws
 pub mod Rows
-pub mod Mending
-pub mod Distances

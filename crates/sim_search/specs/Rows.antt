@@ -1,8 +1,8 @@
 -- Half the least costs from landmarks, as a row of eight numbers for each cell, and what they tell of walks.
-use Rattle.std.specs.{Int.abs_diff, Option.is_some}
-use Rattle.std.specs.Prelude.{◌≡◌, ℕ, zero, suc, ◌*◌, ◌/◌, ◌≤◌, min, max, true, List, length, replicate, slice_index_or, slice_set, Some, None, Option}
-use Rattle.sim_search.specs.{Common.Cell, Common.Field, Common.IsOnGround, Common.IsStep, Common.Size, Estimates.estimate_to, Tables.entry_at}
-use Rattle.sim_search.specs.declared.{ahead.Ahead.Ahead, landmarks.Landmarks.Landmarks}
+use Rattle.sim_search.specs.declared.{ahead.Ahead.Ahead, distances.Distances.Distances, landmarks.Landmarks.Landmarks, toward.Toward.Toward}
+use Rattle.sim_search.specs.{Common.Cell, Common.Field, Common.IsOnGround, Common.IsStep, Common.Size, Estimates.estimate_to, Queues.entry_at}
+use Rattle.std.specs.Prelude.{replicate, slice_index_or, slice_set, suc, true, zero, ℕ, ◌*◌, ◌+◌, ◌/◌, ◌≡◌, ◌≤◌}
+use Rattle.std.specs.{Int.abs_diff, Option.is_some, Prelude.List, Prelude.None, Prelude.Option, Prelude.Some, Prelude.length, Prelude.max, Prelude.min}
 
 abbrev pub size_by : Landmarks → Size
 size_by l = record { width = l.width; depth = l.depth }
@@ -55,3 +55,23 @@ pub record AreLandmarks (field : Field) (row : Cell → Option (List ℕ)) : Typ
 -- the greater of the octile estimate and of what the landmarks tell
 abbrev pub estimate_by : Ahead → Cell → ℕ
 estimate_by it c = max (estimate_to it.aim c) (between (row_in it.landmarks.now c) it.row)
+
+-- Half the least costs of walks from one goal, and the estimate that they are.
+
+abbrev pub size_about : Distances → Size
+size_about d = record { width = d.width; depth = d.depth }
+
+-- the number of a cell
+abbrev pub number_in : Distances → Cell → ℕ
+number_in d c = entry_at 0 (size_about d) d.items.items c
+
+-- Numbers that are 0 at the goal, and of which no two of open cells that lie a step apart differ by more than half of what the step costs.
+pub record AreDistances (field : Field) (goal : Cell) (number : Cell → ℕ) : Type 0 where
+  pub here : number goal ≡ 0
+  pub onwards : (start a b : Cell) (k : ℕ) → field.is_open start ≡ true → IsStep field start a b k → 2 * number a ≤ k + 2 * number b
+  pub back : (start a b : Cell) (k : ℕ) → field.is_open start ≡ true → IsOnGround field.size a → field.is_open a ≡ true → IsStep field start a b k
+      → 2 * number b ≤ k + 2 * number a
+
+-- twice the number of a cell
+abbrev pub estimate_toward : Toward → Cell → ℕ
+estimate_toward it c = 2 * number_in it.distances.now c

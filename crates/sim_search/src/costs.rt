@@ -23,9 +23,9 @@ pub struct Costs {
 }
 
 impl Costs {
-    ghost use Rattle.std.specs.Prelude.{◌≡◌, ◌+◌, ◌-◌, ◌*◌, ◌^◌, ◌<◌, ◌↔◌, IsTrue, slice_index_or, Some, None, vec_len};
-    ghost use Rattle.{sim_grid.specs.Spots.IsSpot, sim_search.specs.Common.Cell, sim_search.specs.Common.IsOnGround};
-    ghost use Rattle.sim_search.specs.Tables.{cost_in, IsForgotten, IsSet, known, place_in, read_entry, size_of};
+    ghost use Rattle.std.specs.Prelude.{IsTrue, None, slice_index_or, Some, vec_len, ◌*◌, ◌+◌, ◌-◌, ◌<◌, ◌^◌, ◌↔◌, ◌≡◌};
+    ghost use Rattle.sim_search.specs.Queues.{cost_in, IsForgotten, IsPlace, IsSet, known, read_entry, size_of};
+    ghost use Rattle.{sim_grid.specs.Grids.IsSpot, sim_search.specs.Common.Cell, sim_search.specs.Common.IsOnGround};
 
     /// Whether the ground has this cell.
     pub(crate) fn has(&self, cell: Cell) -> bool
@@ -37,8 +37,7 @@ impl Costs {
     /// Where a cell of the ground stands in the list.
     pub(crate) fn place(&self, cell: Cell) -> usize
         requires { IsOnGround (size_of self.now) cell }
-        ensures place { result ≡ place_in self.now cell }
-        ensures below { result < self.now.width * self.now.depth }
+        ensures { IsPlace (size_of self.now) cell result }
     {
         usize::from(cell.z) * usize::from(self.width) + usize::from(cell.x)
     }
@@ -47,18 +46,14 @@ impl Costs {
     pub fn at(&self, cell: Cell) -> Option<u32>
         ensures { result ≡ cost_in self.now cell }
     {
-        if self.has(cell) { self.on(cell) } else { None }
+        if self.has(cell) {
+            self.read(self.items[self.place(cell)])
+        } else {
+            None
+        }
     }
 
-    /// The cost of a cell of the ground, if the search has come to it.
-    pub(crate) fn on(&self, cell: Cell) -> Option<u32>
-        requires { IsOnGround (size_of self.now) cell }
-        ensures { result ≡ cost_in self.now cell }
-    {
-        self.read(self.items[self.place(cell)])
-    }
-
-    /// The same where its place is known.
+    /// The same where the cell is one of the ground's, and its place is known.
     #[inline(always)]
     pub(crate) fn at_spot(&self, spot: Spot) -> Option<u32>
         requires { IsSpot (size_of self.now) spot }

@@ -22,9 +22,9 @@ pub struct Distances {
 }
 
 impl Distances {
-    ghost use Rattle.std.specs.Prelude.{◌≡◌, IfOk};
-    ghost use Rattle.{sim_grid.specs.Spots.IsSpot, sim_search.specs.Common.Cell, sim_search.specs.Rows.number_of};
-    ghost use Rattle.sim_search.specs.{Distances.number_in, Distances.size_about, Tables.cost_in, Tables.size_of};
+    ghost use Rattle.std.specs.Prelude.{IfOk, ◌≡◌};
+    ghost use Rattle.sim_grid.specs.Grids.{IsSpot};
+    ghost use Rattle.sim_search.specs.{Common.Cell, Queues.cost_in, Queues.size_of, Rows.number_in, Rows.number_of, Rows.size_about};
 
     /// Those that the costs of walks from the goal tell.
     pub fn of(alloc: Global, costs: &Costs, goal: Cell) -> Result<Distances, OutOfMemory>

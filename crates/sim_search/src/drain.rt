@@ -1,11 +1,12 @@
 //! The search, bucket by bucket: cells are taken by ascending keys, and each one with its least cost.
 
-ghost use Rattle.std.specs.Prelude.{◌≡◌, ℕ, ◌+◌, ◌^◌, ◌<◌, ◌≤◌, true, false, ◌↔◌, [], IfOk, OnOk, IsTrue, Some};
-ghost use Rattle.sim_search.specs.{Comes.IsComeTo, Comes.IsSearched, Queues.Begins, Queues.Drains, Queues.Expands, Queues.Progress, Queues.Ready};
-ghost use Rattle.sim_search.specs.{Common.Cell, Common.Field, Common.field_of_grid, Common.IsOnGround, Tables.AreCosts, Tables.cost_in, Tables.size_of};
-ghost use Rattle.{sim_grid.specs.Grids.is_open_at, sim_search.specs.Estimates.IsGuide, sim_search.specs.Moves.AreMoves};
+ghost use Rattle.std.specs.Prelude.{[], false, IfOk, IsTrue, OnOk, Some, true, ℕ, ◌+◌, ◌<◌, ◌^◌, ◌↔◌, ◌≡◌, ◌≤◌};
+ghost use Rattle.sim_grid.specs.Grids.{is_open_at};
+ghost use Rattle.sim_search.specs.Queues.{Drains, Expands, IsComeTo, IsSearched, Progress, Ready, cost_in, size_of};
+ghost use Rattle.sim_search.specs.{Common.Cell, Common.Field, Common.IsOnGround, Common.field_of_grid, Estimates.IsGuide, Queues.AreCosts, Queues.Begins};
 
 use crate::aim::Nowhere;
+use crate::origin::Origin;
 use crate::queue::{begun, emptied, is_empty, lower, swap_bucket, take, waiting};
 use crate::steps::moves_by_trial;
 use crate::{Costs, Guide, Search, step_beside, step_cost};
@@ -13,20 +14,7 @@ use sim_base::{Cell, Items, OutOfMemory};
 use sim_grid::{Grid, Spot};
 use std::alloc::Global;
 
-// The steps that are allowed from a cell. Whether the start is open is looked at once for a bucket.
-fn moves_where(grid: &Grid, start_open: bool, start: Cell, from: Cell) -> u8
-    requires start_open { start_open ≡ is_open_at grid.now start }
-    requires from { IsOnGround grid.now.size from }
-    ensures { AreMoves (field_of_grid grid.now) start from result }
-{
-    if start_open {
-        grid.steps(from)
-    } else {
-        moves_by_trial(grid, start, from)
-    }
-}
-
-// Reckons with the steps from a cell of this cost.
+// Reckons with the steps from a cell of this cost. Whether the start is open is looked at once for a bucket.
 fn expand<A: Guide>(
     search: &mut Search,
     grid: &Grid,
@@ -36,14 +24,17 @@ fn expand<A: Guide>(
     cost: u32,
 ) -> Result<(), OutOfMemory>
     requires size { size_of search.old.costs ≡ grid.now.size }
-    requires start_on { IsOnGround grid.now.size search.old.start }
     requires start_open { start_open ≡ is_open_at grid.now search.old.start }
     requires from_on { IsOnGround grid.now.size from }
     requires label { cost_in search.old.costs from ≡ Some cost }
     requires small { cost < 2 ^ 31 }
     ensures { OnOk result (Expands (A.estimate_of aim) (field_of_grid grid.now) search.old search.new from cost) }
 {
-    let moves = moves_where(grid, start_open, search.start, from);
+    let moves = if start_open {
+        grid.steps(from)
+    } else {
+        moves_by_trial(grid, search.start, from)
+    };
     let place = grid.place(from);
     let here = Spot { cell: from, place };
     for which in 0..8u8 {
@@ -62,7 +53,6 @@ fn drain<A: Guide>(
     bucket: &[Cell],
     now: u32,
 ) -> Result<bool, OutOfMemory>
-    requires start_on { IsOnGround grid.now.size search.old.start }
     requires drains { Drains (A.estimate_of aim) (field_of_grid grid.now) search.old now bucket.now }
     requires small { now < 2 ^ 31 }
     ensures done { OnOk result (Drains (A.estimate_of aim) (field_of_grid grid.now) search.new now []) }
@@ -131,7 +121,12 @@ pub fn started<A: Guide>(
     ensures ready { IfOk result (λ stage. Ready (A.estimate_of aim) (field_of_grid grid.now) stage.search stage.key 0) }
     ensures small { IfOk result (λ stage. stage.key < 2 ^ 24) }
 {
-    let search = begun(alloc, rooms, grid.width(), grid.depth(), aim, start)?;
+    let origin = Origin {
+        width: grid.width(),
+        depth: grid.depth(),
+        start,
+    };
+    let search = begun(alloc, rooms, origin, aim)?;
     Ok(Stage {
         search,
         key: aim.estimate(start),

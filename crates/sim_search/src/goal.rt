@@ -1,8 +1,8 @@
 //! How far all cells of a ground are from one goal.
 
-ghost use Rattle.std.specs.Prelude.{◌≡◌, true, IfOk};
+ghost use Rattle.std.specs.Prelude.{IfOk, true, ◌≡◌};
 ghost use Rattle.sim_grid.specs.Grids.{is_open_at};
-ghost use Rattle.sim_search.specs.{Common.field_of_grid, Common.IsOnGround, Distances.AreDistances, Distances.number_in, Distances.size_about};
+ghost use Rattle.sim_search.specs.{Common.IsOnGround, Common.field_of_grid, Rows.AreDistances, Rows.number_in, Rows.size_about};
 
 use crate::distances::Distances;
 use crate::drain::search_all;

@@ -1,10 +1,9 @@
 //! Labels of regions. Two open cells have one label just where steps to the east, north, west and south over open cells
 //! join them.
 
-ghost use Rattle.std.specs.Prelude.{◌≡◌, ◌+◌, ◌*◌, ◌<◌, ◌↔◌, IfOk, OnOk, IsTrue, Some, All};
-ghost use Rattle.sim_search.specs.{Common.field_of_grid, Common.IsOnGround, Common.place_of, NumberTables.entry_in, NumberTables.size_in, Regions.AreLabels};
-ghost use Rattle.sim_search.specs.Floods.{Fills, Flooded, Floods, is_late, is_none_late, label_in, Marks, Spreads};
-ghost use Rattle.sim_search.specs.Mending.{AreForgotten, AreGiven, HasRoom};
+ghost use Rattle.std.specs.Prelude.{All, IfOk, IsTrue, OnOk, Some, ◌*◌, ◌+◌, ◌<◌, ◌↔◌, ◌≡◌};
+ghost use Rattle.sim_search.specs.Floods.{AreForgotten, AreGiven, AreLabels, entry_in, Fills, Flooded, Floods, HasRoom, is_late, is_none_late, label_in, Marks};
+ghost use Rattle.sim_search.specs.{Common.IsOnGround, Common.field_of_grid, Common.place_of, Floods.Spreads, Floods.size_in};
 
 use crate::table::{Table, no_numbers};
 use sim_base::{Cell, OutOfMemory};

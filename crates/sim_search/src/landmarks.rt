@@ -20,8 +20,8 @@ pub struct Landmarks {
 }
 
 impl Landmarks {
-    ghost use Rattle.std.specs.Prelude.{◌≡◌, ◌<◌, IfOk};
-    ghost use Rattle.sim_search.specs.{Common.Cell, Rows.alike as alike_by, Rows.row_in, Rows.row_with as row_by, Rows.size_by, Tables.cost_in, Tables.size_of};
+    ghost use Rattle.std.specs.Prelude.{IfOk, ◌<◌, ◌≡◌};
+    ghost use Rattle.sim_search.specs.{Common.Cell, Queues.cost_in, Queues.size_of, Rows.alike as alike_by, Rows.row_in, Rows.row_with as row_by, Rows.size_by};
 
     /// Landmarks that tell nothing yet, of the cells that have a cost.
     pub fn new(alloc: Global, costs: &Costs) -> Result<Landmarks, OutOfMemory>

@@ -8,8 +8,8 @@
 //! - `aim`: what is known of the cost from a cell on, and where a search goes.
 //! - `landmarks`, `row`, `survey`, `ahead`: least costs from a few cells of a ground, and what they tell of the cost from a cell on.
 //! - `distances`, `goal`, `toward`: least costs from one goal, and the estimate that they are.
-//! - `search`, `queue`, `drain`: the search, by buckets of cells that wait at one cost and estimate, and how far it has
-//!   come.
+//! - `search`, `origin`, `queue`, `drain`: the search, by buckets of cells that wait at one cost and estimate, where it starts, and how
+//!   far it has come.
 //! - `labels`, `table`: labels of regions, which tell what is reached.
 //! - `region`, `mend`: cells that are joined nearby; labels of a ground on which some cells were closed or opened.
 //! - `laws`: theorems about the search for every estimate, and about labels, each the contract of a function that does
@@ -27,6 +27,7 @@ mod labels;
 mod landmarks;
 mod laws;
 mod mend;
+mod origin;
 mod queue;
 mod region;
 mod row;

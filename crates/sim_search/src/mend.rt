@@ -1,10 +1,9 @@
 //! Labels of a ground on which some cells were closed or opened, where a look nearby tells that all others keep theirs.
 //! Elsewhere the labels are made anew.
 
-ghost use Rattle.std.specs.Prelude.{◌≡◌, ℕ, ◌⊎◌, false, true, Some, All, Contains};
-ghost use Rattle.sim_search.specs.{Common.field_of_grid, Common.IsOnGround, Common.place_of, Floods.label_in};
-ghost use Rattle.sim_search.specs.Mending.{AreAlike, AreOpen, AreOthersKept, IsBeside, IsMore, IsNextTo, IsNotFirst, labelled, Suits};
-ghost use Rattle.sim_search.specs.Regions.{AreLabels};
+ghost use Rattle.std.specs.Prelude.{All, false, Some, true, ℕ, ◌≡◌, ◌⊎◌};
+ghost use Rattle.sim_search.specs.Floods.{AreAlike, AreLabels, AreOpen, AreOthersKept, IsBeside, IsMore, IsNextTo, IsNotFirst, label_in, labelled, Mends};
+ghost use Rattle.sim_search.specs.{Common.field_of_grid, Common.place_of, Floods.Suits};
 
 use crate::labels::Labels;
 use crate::region::{are_joined, rim_of};
@@ -14,7 +13,6 @@ use std::alloc::Global;
 
 // The place of a cell among those of the ground.
 fn place_in(grid: &Grid, cell: Cell) -> u32
-    requires { IsOnGround grid.now.size cell }
     ensures { result ≡ place_of grid.now.size cell }
 {
     u32::from(cell.z) * u32::from(grid.width()) + u32::from(cell.x)
@@ -22,7 +20,6 @@ fn place_in(grid: &Grid, cell: Cell) -> u32
 
 // Whether a cell is the first of its region.
 fn is_first(labels: &Labels, grid: &Grid, cell: Cell) -> bool
-    requires { IsOnGround grid.now.size cell }
     ensures { result ≡ false → IsNotFirst grid.now.size (label_in labels.now) cell }
 {
     match labels.of(cell) {
@@ -33,7 +30,6 @@ fn is_first(labels: &Labels, grid: &Grid, cell: Cell) -> bool
 
 // Whether none of these cells is the first of its region.
 fn is_none_first(labels: &Labels, grid: &Grid, cells: &[Cell]) -> bool
-    requires { (c : Cell) → Contains cells.now c → IsOnGround grid.now.size c }
     ensures { result ≡ true → All (IsNotFirst grid.now.size (label_in labels.now)) cells.now }
 {
     for cell in cells {
@@ -52,8 +48,7 @@ fn are_others_kept(
     cells: &[Cell],
     rim: &[Cell],
 ) -> bool
-    requires on { (c : Cell) → Contains cells.now c → IsOnGround grid.now.size c }
-    requires rim { AreOpen (field_of_grid grid.now) rim.now }
+    requires { AreOpen (field_of_grid grid.now) rim.now }
     ensures { result ≡ true → AreOthersKept (field_of_grid grid.now) (label_in labels.now) cells.now rim.now }
 {
     if rim.is_empty() {
@@ -70,8 +65,7 @@ fn are_others_kept(
 pub fn mend_closed(alloc: Global, labels: &mut Labels, grid: &Grid, cells: &[Cell]) -> bool
     requires labels { AreLabels (labelled grid.now.size (label_in labels.old)) (label_in labels.old) }
     requires closed { IsMore (labelled grid.now.size (label_in labels.old)) (field_of_grid grid.now) cells.now }
-    ensures mended { result ≡ true → AreLabels (field_of_grid grid.now) (label_in labels.new) }
-    ensures same { result ≡ false → labels.new ≡ labels.old }
+    ensures { Mends (field_of_grid grid.now) labels.old labels.new result }
 {
     let Ok(rim) = rim_of(alloc, grid, cells) else {
         return false;
@@ -113,7 +107,6 @@ fn label_about(labels: &Labels, grid: &Grid, cells: &[Cell]) -> Option<u32>
 
 // The label that these cells have if they have one: that of a cell beside one of them, or else the place of the first.
 fn label_for(labels: &Labels, grid: &Grid, cells: &[Cell], first: Cell) -> u32
-    requires { IsOnGround grid.now.size first }
     ensures { IsBeside grid.now.size (label_in labels.now) cells.now result ⊎ (result ≡ place_of grid.now.size first) }
 {
     match label_about(labels, grid, cells) {
@@ -149,7 +142,6 @@ fn are_alike(labels: &Labels, grid: &Grid, cell: Cell, label: u32) -> bool
 
 // Whether this label suits a cell.
 fn suits(labels: &Labels, grid: &Grid, cell: Cell, label: u32) -> bool
-    requires { IsOnGround grid.now.size cell }
     ensures { result ≡ true → Suits labels.now grid.now.size label cell }
 {
     if !labels.has(cell) {
@@ -163,7 +155,6 @@ fn suits(labels: &Labels, grid: &Grid, cell: Cell, label: u32) -> bool
 
 // Whether this label suits all of these cells.
 fn suits_all(labels: &Labels, grid: &Grid, cells: &[Cell], label: u32) -> bool
-    requires { (c : Cell) → Contains cells.now c → IsOnGround grid.now.size c }
     ensures { result ≡ true → All (Suits labels.now grid.now.size label) cells.now }
 {
     for cell in cells {
@@ -179,8 +170,7 @@ fn suits_all(labels: &Labels, grid: &Grid, cells: &[Cell], label: u32) -> bool
 pub fn mend_opened(alloc: Global, labels: &mut Labels, grid: &Grid, cells: &[Cell]) -> bool
     requires labels { AreLabels (labelled grid.now.size (label_in labels.old)) (label_in labels.old) }
     requires opened { IsMore (field_of_grid grid.now) (labelled grid.now.size (label_in labels.old)) cells.now }
-    ensures mended { result ≡ true → AreLabels (field_of_grid grid.now) (label_in labels.new) }
-    ensures same { result ≡ false → labels.new ≡ labels.old }
+    ensures { Mends (field_of_grid grid.now) labels.old labels.new result }
 {
     if cells.is_empty() {
         return false;

@@ -1,11 +1,12 @@
 //! The cells that wait, in a ring of buckets, each of which holds those of one key: the sum of cost and estimate.
 
-ghost use Rattle.std.specs.Prelude.{true, false, ◌≡◌, ℕ, ◌+◌, ◌-◌, ◌*◌, ◌%◌, ◌^◌, ◌<◌, ◌≤◌, ◌↔◌, [], replicate, IfOk, OnOk, IsTrue, slice_index_or, Some, None, vec_len};
-ghost use Rattle.{sim_grid.specs.Spots.IsSpot, sim_search.specs.Common.IsOnGround};
-ghost use Rattle.sim_search.specs.Tables.{cost_in, is_lower_than, place_in, size_of};
-ghost use Rattle.sim_search.specs.Queues.{Begins, bucket_in, Empties, IsBlank, IsLowered, Lowers, taken_in, Takes};
+ghost use Rattle.std.specs.Prelude.{[], false, IfOk, IsTrue, None, OnOk, replicate, slice_index_or, Some, true, vec_len, ℕ, ◌%◌, ◌*◌, ◌+◌, ◌-◌, ◌<◌, ◌^◌, ◌↔◌};
+ghost use Rattle.std.specs.Prelude.{◌≡◌};
+ghost use Rattle.sim_search.specs.Queues.{Begins, bucket_in, cost_in, Empties, ground_of, is_lower_than, IsBlank, IsLowered, Lowers, place_in, size_of};
+ghost use Rattle.{sim_grid.specs.Grids.IsSpot, sim_search.specs.Common.IsOnGround, sim_search.specs.Queues.Takes, sim_search.specs.Queues.taken_in};
 
 use crate::entry::Entry;
+use crate::origin::Origin;
 use crate::{Costs, Guide, Search};
 use sim_base::{Cell, Items, OutOfMemory};
 use sim_grid::Spot;
@@ -48,14 +49,15 @@ fn no_marks(alloc: Global, count: usize) -> Result<Vec<u32>, OutOfMemory>
     Ok(vec![in alloc; 0; count]?)
 }
 
-// Rooms for a search on a ground of so many cells.
-fn new_rooms(alloc: Global, width: u16, depth: u16, start: Cell) -> Result<Search, OutOfMemory>
-    requires narrow { width ≤ 256 }
-    requires shallow { depth ≤ 256 }
-    requires east { start.x < width }
-    requires north { start.z < depth }
-    ensures { IfOk result (λ s. IsBlank (record { width = width; depth = depth }) start s) }
+// Rooms for a search from this start.
+fn new_rooms(alloc: Global, origin: Origin) -> Result<Search, OutOfMemory>
+    ensures { IfOk result (λ s. IsBlank (ground_of origin) origin.start s) }
 {
+    let Origin {
+        width,
+        depth,
+        start,
+    } = origin;
     let count = usize::from(width) * usize::from(depth);
     let items = no_entries(alloc, count)?;
     let taken = no_marks(alloc, count)?;
@@ -106,51 +108,38 @@ fn used_again(alloc: Global, mut rooms: Search, start: Cell) -> Search
     rooms
 }
 
-// Whether a search on a ground of so many cells can be made in these rooms.
-fn fits(rooms: &Search, width: u16, depth: u16) -> bool
-    ensures { IsTrue result ↔ (size_of rooms.now.costs ≡ record { width = width; depth = depth }) × (rooms.now.costs.stamp < 2 ^ 32 - 1) }
+// Whether a search from this start can be made in these rooms.
+fn fits(rooms: &Search, origin: Origin) -> bool
+    ensures { IsTrue result ↔ (size_of rooms.now.costs ≡ ground_of origin) × (rooms.now.costs.stamp < 2 ^ 32 - 1) }
 {
-    rooms.costs.width == width && rooms.costs.depth == depth && rooms.costs.stamp < u32::MAX
+    rooms.costs.width == origin.width
+        && rooms.costs.depth == origin.depth
+        && rooms.costs.stamp < u32::MAX
 }
 
 // A search that has come to no cell yet, in the rooms of an earlier one, where they fit.
-fn blank(
-    alloc: Global,
-    rooms: Option<Search>,
-    width: u16,
-    depth: u16,
-    start: Cell,
-) -> Result<Search, OutOfMemory>
-    requires narrow { width ≤ 256 }
-    requires shallow { depth ≤ 256 }
-    requires east { start.x < width }
-    requires north { start.z < depth }
-    ensures { IfOk result (λ s. IsBlank (record { width = width; depth = depth }) start s) }
+fn blank(alloc: Global, rooms: Option<Search>, origin: Origin) -> Result<Search, OutOfMemory>
+    ensures { IfOk result (λ s. IsBlank (ground_of origin) origin.start s) }
 {
     if let Some(rooms) = rooms {
-        if fits(&rooms, width, depth) {
-            return Ok(used_again(alloc, rooms, start));
+        if fits(&rooms, origin) {
+            return Ok(used_again(alloc, rooms, origin.start));
         }
     }
-    new_rooms(alloc, width, depth, start)
+    new_rooms(alloc, origin)
 }
 
-/// A search on a ground of so many cells that has come to none but the start, in the rooms of an earlier one.
+/// A search that has come to no cell but the start, in the rooms of an earlier one.
 pub fn begun<A: Guide>(
     alloc: Global,
     rooms: Option<Search>,
-    width: u16,
-    depth: u16,
+    origin: Origin,
     aim: A,
-    start: Cell,
 ) -> Result<Search, OutOfMemory>
-    requires narrow { width ≤ 256 }
-    requires shallow { depth ≤ 256 }
-    requires east { start.x < width }
-    requires north { start.z < depth }
-    ensures { IfOk result (λ s. Begins (A.estimate_of aim) (record { width = width; depth = depth }) start s) }
+    ensures { IfOk result (λ s. Begins (A.estimate_of aim) (ground_of origin) origin.start s) }
 {
-    let mut search = blank(alloc, rooms, width, depth, start)?;
+    let start = origin.start;
+    let mut search = blank(alloc, rooms, origin)?;
     let place = search.costs.place(start);
     wait(&mut search, aim, start, place, 0)?;
     Ok(search)

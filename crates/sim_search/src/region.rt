@@ -1,9 +1,9 @@
 //! Cells that steps to the east, north, west and south over open cells join, as far as a look nearby tells. What it finds
 //! is joined; what it doesn't find may be joined all the same.
 
-ghost use Rattle.std.specs.Prelude.{◌≡◌, ◌↔◌, true, IfOk, OnOk, IsTrue, Contains};
-ghost use Rattle.sim_search.specs.{Common.field_of_grid, Common.IsOnGround, Mending.AreAdded, Mending.AreJoined, Mending.AreOpen, Mending.IsInside, Mending.IsRim};
-ghost use Rattle.sim_search.specs.Regions.{IsJoined};
+ghost use Rattle.std.specs.Prelude.{Contains, IfOk, IsTrue, OnOk, true, ◌↔◌, ◌≡◌};
+ghost use Rattle.sim_search.specs.Common.{field_of_grid, IsOnGround};
+ghost use Rattle.sim_search.specs.Floods.{AreAdded, AreJoined, AreOpen, IsInside, IsJoined, IsRim};
 
 use sim_base::{Cell, OutOfMemory};
 use sim_grid::Grid;

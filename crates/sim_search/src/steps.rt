@@ -1,8 +1,9 @@
 //! The steps that are allowed over a grid.
 
-ghost use Rattle.std.specs.{Option.is_some, Prelude.◌≡◌, Prelude.◌<◌, Prelude.IfSome, Prelude.Some, Prelude.None};
+ghost use Rattle.std.specs.{Option.is_some, Prelude.IfSome, Prelude.None, Prelude.Some, Prelude.◌<◌, Prelude.◌≡◌};
+ghost use Rattle.sim_grid.specs.{Grids.IsSpot, Grids.LooksFrom, declared.spot.Spot.Spot};
 ghost use Rattle.sim_search.specs.Common.{beside_open, field_of_grid, is_free as is_free_in, IsOnGround, step_cost as cost_of_step};
-ghost use Rattle.{sim_grid.specs.Spots.IsSpot, sim_grid.specs.declared.spot.Spot.Spot, sim_search.specs.Moves.AreMoves, sim_search.specs.Moves.step_to};
+ghost use Rattle.sim_search.specs.Moves.{AreMoves, step_to};
 
 use sim_base::Cell;
 use sim_grid::{Grid, Spot};
@@ -46,8 +47,7 @@ pub(crate) fn moves_by_trial(grid: &Grid, start: Cell, from: Cell) -> u8
 
 // Whether a step from this cell in that direction is allowed.
 fn is_allowed(grid: &Grid, start: Cell, from: Cell, which: u8) -> bool
-    requires which_in { which < 8 }
-    requires from_on { IsOnGround grid.now.size from }
+    requires { LooksFrom grid.now.size from which }
     ensures { result ≡ is_some (step_to (field_of_grid grid.now) start from which) }
 {
     match grid.neighbour(from, which) {

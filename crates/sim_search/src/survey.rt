@@ -1,8 +1,8 @@
 //! Where landmarks are set: each far from those before.
 
-ghost use Rattle.std.specs.Prelude.{◌≡◌, ◌<◌, true, IfOk, OnOk, IfSome};
+ghost use Rattle.std.specs.Prelude.{◌≡◌, true, IfOk, IfSome};
 ghost use Rattle.sim_grid.specs.Grids.{is_open_at};
-ghost use Rattle.sim_search.specs.{Common.field_of_grid, Common.IsOnGround, Rows.AreLandmarks, Rows.row_in, Rows.size_by, Tables.size_of};
+ghost use Rattle.sim_search.specs.{Common.field_of_grid, Common.IsOnGround, Rows.AreLandmarks, Rows.row_in};
 
 use crate::costs::Costs;
 use crate::drain::least_costs;
@@ -47,27 +47,6 @@ fn furthest(grid: &Grid, nearest: &mut Table, costs: &Costs) -> Option<Cell>
     found
 }
 
-// Sets one landmark to this cell, and answers the costs from there.
-fn set_to(
-    alloc: Global,
-    grid: &Grid,
-    landmarks: &mut Landmarks,
-    which: usize,
-    cell: Cell,
-) -> Result<Costs, OutOfMemory>
-    requires which { which < 8 }
-    requires on { IsOnGround grid.now.size cell }
-    requires is_open { is_open_at grid.now cell ≡ true }
-    requires size { size_by landmarks.old ≡ grid.now.size }
-    requires landmarks { AreLandmarks (field_of_grid grid.now) (row_in landmarks.old) }
-    ensures size { OnOk result (size_by landmarks.new ≡ grid.now.size) }
-    ensures landmarks { OnOk result (AreLandmarks (field_of_grid grid.now) (row_in landmarks.new)) }
-{
-    let costs = least_costs(alloc, grid, cell)?;
-    landmarks.set(which, &costs);
-    Ok(costs)
-}
-
 /// Landmarks on the ground of a grid that a walk from this cell reaches, the first one the furthest from it.
 pub fn landmarks_on(alloc: Global, grid: &Grid, from: Cell) -> Result<Landmarks, OutOfMemory>
     requires on { IsOnGround grid.now.size from }
@@ -81,7 +60,8 @@ pub fn landmarks_on(alloc: Global, grid: &Grid, from: Cell) -> Result<Landmarks,
         let Some(cell) = furthest(grid, &mut nearest, &costs) else {
             return Ok(landmarks);
         };
-        costs = set_to(alloc, grid, &mut landmarks, which, cell)?;
+        costs = least_costs(alloc, grid, cell)?;
+        landmarks.set(which, &costs);
     }
     Ok(landmarks)
 }

@@ -17,10 +17,8 @@ pub struct Table {
 }
 
 impl Table {
-    ghost use Rattle.std.specs.Prelude.{◌≡◌, ◌+◌, ◌*◌, ◌<◌, ◌↔◌, replicate, IfOk, IsTrue, Some, None};
-    ghost use Rattle.sim_search.specs.Common.{Cell, IsOnGround};
-    ghost use Rattle.sim_search.specs.NumberTables.{entry_in, IsEntered, place_at, size_in};
-    ghost use Rattle.sim_search.specs.Mending.{IsEmptied};
+    ghost use Rattle.std.specs.Prelude.{IfOk, IsTrue, None, replicate, Some, ◌*◌, ◌+◌, ◌<◌, ◌↔◌, ◌≡◌};
+    ghost use Rattle.sim_search.specs.{Common.Cell, Common.IsOnGround, Floods.IsEmptied, Floods.IsEntered, Floods.entry_in, Floods.size_in, Queues.IsPlace};
 
     /// Whether the ground has this cell.
     pub fn has(&self, cell: Cell) -> bool
@@ -32,8 +30,7 @@ impl Table {
     /// Where a cell of the ground stands in the list.
     pub fn place(&self, cell: Cell) -> usize
         requires { IsOnGround (size_in self.now) cell }
-        ensures place { result ≡ place_at self.now cell }
-        ensures below { result < self.now.width * self.now.depth }
+        ensures { IsPlace (size_in self.now) cell result }
     {
         usize::from(cell.z) * usize::from(self.width) + usize::from(cell.x)
     }

@@ -11,7 +11,7 @@ pub struct Toward<'a> {
 }
 
 impl<'a> Guide for Toward<'a> {
-    ghost use Rattle.sim_search.specs.Distances.{estimate_toward};
+    ghost use Rattle.sim_search.specs.Rows.{estimate_toward};
 
     ghost estimate_of = { estimate_toward };
 

@@ -1,6 +1,4 @@
 pub mod Common
-pub mod Lists
-pub mod Said
 pub mod Made
 pub mod Whole
 pub mod Smallness

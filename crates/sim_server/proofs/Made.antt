@@ -1,14 +1,126 @@
 -- What each arrival makes of a server, over plain values.
-use Rattle.sim_server.proofs.{Lists.put_is, Said.list_nobody, Said.list_to_one}
-use Rattle.sim_server.proofs.Common.{Arrival, Ask, asked, asked_one, cases_eq, cases_lt, cond-false, cond-true, Cut, cut_said, done_fault, donor, entry_done}
-use Rattle.sim_server.proofs.Common.{OutOfMemory, PlayerCommand, post_list, posted_to, PostOf, Posts, posts, posts_of, put, raised, raised_to, reference_in}
-use Rattle.sim_server.proofs.Common.{false≢true, Heard, heard, In, inl, inr, is_out, IsClient, IsSeated, kept_above, kept_in, least_done, least_in}
-use Rattle.sim_server.proofs.Common.{if◌then◌else◌, nat_lt, nat_le, ◌==◌, Some, None, Ok, Err, filter, Option, Result, refl, and_parts, Answers, ap, arith}
-use Rattle.sim_server.proofs.Common.{least_in_inside, leb-true, length-map, length-set, loading, ltb-true, Made, Makes, moved, ne_eqb, nobody, opening, Out}
-use Rattle.sim_server.proofs.Common.{refusal, Refused, Release, release, Rules, seat, Server, server_after, server_of, StandsFor, State, Status, status_in, sym}
-use Rattle.sim_server.proofs.Common.{takes_state, to_one, unless, up_to, View, waits_for, with_status, ◌∙◌}
-use Rattle.sim_server.proofs.Common.{◌≡◌, ℕ, zero, suc, ◌-◌, ◌<◌, ◌≤◌, min, Bool, true, false, ◌&&◌, ◌⊎◌, List, [], ◌∷◌, ◌++◌, map, length, set, IfOk}
 use Rattle.sim_plain.specs.declared.message.UpOf.TheVariants as up
+use Rattle.sim_server.proofs.Common.{IsClient, IsSeated, kept_above, kept_in, le-ltb, least_done, least_in, least_in_inside, leb-true, length, length-map}
+use Rattle.sim_server.proofs.Common.{Option, Out, OutOfMemory, PlayerCommand, post_list, posted_to, PostOf, Posts, posts, posts_of, put, raised, raised_to}
+use Rattle.sim_server.proofs.Common.{StandsFor, State, Status, status_in, suc, sym, takes_state, to_all, to_one, true, unless, up_to, View, waits_for}
+use Rattle.sim_server.proofs.Common.{[], add-one, and_parts, Answers, ap, append-nil, append_assoc, arith, Arrival, Ask, asked, asked_one, Bool, cases_eq}
+use Rattle.sim_server.proofs.Common.{cases_lt, Command, cond-false, cond-true, Cut, cut_said, done_fault, donor, DownOf, entry_done, eq-eqb, Err, false}
+use Rattle.sim_server.proofs.Common.{false≢true, filter, get_or, get_or-set_other, get_or-set_same, Heard, heard, IfOk, if◌then◌else◌, In, inl, inr, is_out}
+use Rattle.sim_server.proofs.Common.{length-set, List, loading, ltb-true, Made, Makes, map, min, moved, nat_le, nat_lt, ne_eqb, nobody, None, Ok, opening}
+use Rattle.sim_server.proofs.Common.{reference_in, refl, refusal, Refused, Release, release, Result, Rules, seat, Server, server_after, server_of, set, Some}
+use Rattle.sim_server.proofs.Common.{with_status, zero, ℕ, ◌&&◌, ◌++◌, ◌+◌, ◌-◌, ◌<◌, ◌==◌, ◌∙◌, ◌∷◌, ◌≡◌, ◌≤◌, ◌⊎◌}
+
+-- Lists as functions of a place, with a value for each place behind the end.
+
+-- one more value that was there already
+at_end : {X : Type 0} (xs : List X) (d : X) (t : ℕ) → get_or (xs ++ d ∷ []) t d ≡ get_or xs t d
+at_end [] d zero = refl
+at_end [] d (suc t) = refl
+at_end (x ∷ xs) d zero = refl
+at_end (x ∷ xs) d (suc t) = at_end xs d t
+
+-- there is no value behind the end
+pub beyond : {X : Type 0} (xs : List X) (d : X) (t : ℕ) → length xs ≤ t → get_or xs t d ≡ d
+beyond [] d zero le = refl
+beyond [] d (suc t) le = refl
+beyond (x ∷ xs) d zero le = absurd (omega arith)
+beyond (x ∷ xs) d (suc t) le = beyond xs d t (omega arith)
+
+-- the value at each place
+abbrev pub values : {X : Type 0} → List X → X → ℕ → X
+values xs d t = get_or xs t d
+
+pub grown : {X : Type 0} (xs : List X) (d : X) → values (xs ++ d ∷ []) d ≡ values xs d
+grown xs d = λ i t. at_end xs d t i
+
+-- a value that is put in its place
+pub put_is : {X : Type 0} (xs : List X) (d x : X) (t : ℕ) → t < length xs → values (set xs t x) d ≡ put t x (values xs d)
+put_is {X} xs d x t lt = λ i u. at u (cases_eq u t) i
+  where
+    at : (u : ℕ) → (u ≡ t) ⊎ (u ≡ t → ⊥) → get_or (set xs t x) u d ≡ (if u == t then x else get_or xs u d)
+    at u (inl e) = ap (λ v. get_or (set xs t x) v d) e ∙ get_or-set_same xs t x d lt ∙ sym (cond-true _ x (get_or xs u d) (eq-eqb u t e))
+    at u (inr apart) = get_or-set_other xs t u x d apart ∙ sym (cond-false _ x (get_or xs u d) (ne_eqb u t apart))
+
+-- Lists of posts, piece by piece.
+
+pub posted-append : {B : Type 0} (c : ℕ) (xs ys : List (DownOf B)) → posted_to c (xs ++ ys) ≡ posted_to c xs ++ posted_to c ys
+posted-append c [] ys = refl
+posted-append {B = B} c (x ∷ xs) ys = ap (λ (l : List (PostOf B)). record { to = c; down = x } ∷ l) (posted-append c xs ys)
+
+-- nothing is said
+pub list_nobody : {B : Type 0} (n : ℕ) → post_list n (nobody {B = B}) ≡ []
+list_nobody zero = refl
+list_nobody {B = B} (suc n) = ap (λ (l : List (PostOf B)). l ++ []) (list_nobody n)
+
+-- no turns are released
+pub list_release : {B : Type 0} (status : ℕ → Status) (n released risen : ℕ) → risen ≤ released → post_list n (release {B = B} status released risen) ≡ []
+list_release {B = B} status n released risen le = ap (post_list n) (cond-false _ (to_all status (Release risen)) (nobody {B = B}) (le-ltb released risen le)) ∙
+    list_nobody n
+
+-- nothing is said to those before
+list_before : {B : Type 0} (n c : ℕ) (said : List (DownOf B)) → n < c → post_list n (to_one c said) ≡ []
+list_before zero c said lt = refl
+list_before {B = B} (suc n) c said lt =
+    let now : (if suc n == c then said else []) ≡ [] = cond-false _ said [] (ne_eqb (suc n) c (λ e. absurd (omega arith))) in
+    (λ i. list_before n c said (omega arith) i ++ posted_to (suc n) (now i))
+
+-- one client is told something
+pub list_to_one : {B : Type 0} (n c : ℕ) (said : List (DownOf B)) → 0 < c → c ≤ n → post_list n (to_one c said) ≡ posted_to c said
+list_to_one zero c said a b = absurd (omega arith)
+list_to_one {B = B} (suc n) c said a b = by (cases_eq (suc n) c) (λ (h : c ≤ n). list_to_one n c said a h)
+  where
+    by : (suc n ≡ c) ⊎ (suc n ≡ c → ⊥) → (c ≤ n → post_list n (to_one c said) ≡ posted_to c said) → post_list n (to_one c said) ++ posted_to (suc n)
+        (if suc n == c then said else []) ≡ posted_to c said
+    by (inl e) rec = (λ i. list_before n c said (omega arith) i ++ posted_to (e i) (cond-true _ said [] (eq-eqb (suc n) c e) i))
+    by (inr apart) rec = (λ i. rec (omega arith) i ++ posted_to (suc n) (cond-false _ said [] (ne_eqb (suc n) c apart) i)) ∙ append-nil (posted_to c said)
+
+-- one client more is told something, in two pieces
+pub more_said : {B : Type 0} (i : ℕ) (posts : Posts B) (old middle new : List (PostOf B)) (first second : List (DownOf B))
+    → old ≡ post_list i posts → middle ≡ old ++ posted_to (i + 1) first → new ≡ middle ++ posted_to (i + 1) second → posts (i + 1) ≡ first ++ second
+    → new ≡ post_list (i + 1) posts
+more_said {B = B} i posts old middle new first second e f g said =
+    g ∙ ap (λ (l : List (PostOf B)). l ++ posted_to (i + 1) second) (f ∙ ap (λ (l : List (PostOf B)). l ++ posted_to (i + 1) first) e)
+    ∙ append_assoc (post_list i posts) (posted_to (i + 1) first) (posted_to (i + 1) second)
+    ∙ ap (λ (l : List (PostOf B)). post_list i posts ++ l) (sym (posted-append (i + 1) first second) ∙ ap (posted_to (i + 1)) (sym said))
+    ∙ last (add-one i)
+  where
+    last : i + 1 ≡ suc i → post_list i posts ++ posted_to (i + 1) (posts (i + 1)) ≡ post_list (i + 1) posts
+    last e = (λ j. post_list i posts ++ posted_to (e j) (posts (e j))) ∙ (λ j. post_list (sym e j) posts)
+
+-- more is said to one client
+pub more_to : {B : Type 0} (c : ℕ) (start old new : List (PostOf B)) (before more whole : List (DownOf B))
+    → old ≡ start ++ posted_to c before → new ≡ old ++ posted_to c more → whole ≡ before ++ more → new ≡ start ++ posted_to c whole
+more_to {B = B} c start old new before more whole e f w =
+    f ∙ ap (λ (l : List (PostOf B)). l ++ posted_to c more) e ∙ append_assoc start (posted_to c before) (posted_to c more)
+    ∙ ap (λ (l : List (PostOf B)). start ++ l) (sym (posted-append c before more) ∙ ap (posted_to c) (sym w))
+
+-- the kept commands of one turn more
+pub above_more : {B : Type 0} (kept : ℕ → List PlayerCommand) (t i : ℕ) (orders : List PlayerCommand) → orders ≡ kept (t + i + 1)
+    → kept_above {B = B} kept t (i + 1) ≡ kept_above kept t i ++ map (Command (t + i + 1)) orders
+above_more {B = B} kept t i orders e = ap (kept_above kept t) (add-one i) ∙
+    (λ j. kept_above kept t i ++ map (Command (sym (add-one (t + i)) j)) (kept (sym (add-one (t + i)) j))) ∙
+    (λ j. kept_above kept t i ++ map (Command (t + i + 1)) (sym e j))
+
+-- no command is told of turns that have no list
+above_short : {B : Type 0} (kept : List (List PlayerCommand)) (t n m : ℕ) → m ≤ n → (m ≡ n) ⊎ (length kept ≤ suc (t + m))
+    → kept_above {B = B} (kept_in kept) t n ≡ kept_above (kept_in kept) t m
+above_short kept t n m le (inl same) = ap (kept_above (kept_in kept) t) (sym same)
+above_short kept t zero m le (inr few) = let none : zero ≡ m = omega arith in ap (kept_above (kept_in kept) t) none
+above_short {B = B} kept t (suc n) m le (inr few) = by (cases_eq m (suc n)) (λ (h : m ≤ n). above_short kept t n m h (inr few))
+  where
+    by : (m ≡ suc n) ⊎ (m ≡ suc n → ⊥) → (m ≤ n → kept_above {B = B} (kept_in kept) t n ≡ kept_above (kept_in kept) t m) → kept_above {B = B} (kept_in kept) t
+        (suc n) ≡ kept_above (kept_in kept) t m
+    by (inl same) rec = ap (kept_above (kept_in kept) t) (sym same)
+    by (inr apart) rec = (λ i. rec (omega arith) i ++ map (Command (suc (t + n))) (beyond kept [] (suc (t + n)) (omega arith) i)) ∙
+        append-nil (kept_above (kept_in kept) t m)
+
+pub above_last : {B : Type 0} (kept : List (List PlayerCommand)) (t turns last : ℕ) → last ≡ min turns (length kept - 1) → kept_above {B = B} (kept_in kept) t
+    (turns - t) ≡ kept_above (kept_in kept) t (last - t)
+above_last kept t turns last is = above_short kept t (turns - t) (last - t) (omega arith) (by (cases_lt (length kept - 1) turns))
+  where
+    by : (length kept - 1 < turns) ⊎ (turns ≤ length kept - 1) → (last - t ≡ turns - t) ⊎ (length kept ≤ suc (t + (last - t)))
+    by (inl lt) = inr (omega arith)
+    by (inr le) = inl (omega arith)
 
 abbrev Bytes : Type 0
 Bytes = List ℕ

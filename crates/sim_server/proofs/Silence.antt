@@ -1,13 +1,13 @@
 -- At a silent arrival nobody is told anything.
-use Rattle.sim_server.proofs.{Made.status_set, Said.list_nobody, Said.list_release}
-use Rattle.sim_server.proofs.Common.{differs, donor, false≢true, GoesUnseen, Heard, In, IsClient, IsNoted, IsSeated, IsSilent, IsUpFrame, le-ltb, least_done}
-use Rattle.sim_server.proofs.Common.{loading, Makes, nobody, Notice, Out, OutOfMemory, post_list, posted_to, PostOf, Posts, posts, posts_of, put, raised}
-use Rattle.sim_server.proofs.Common.{raised_to, reference_in, refusal, Refused, RefusedFor, Release, release, ReleasesNothing, Rules, SaysNoted, Server}
-use Rattle.sim_server.proofs.Common.{server_of, Status, status_in, subst, to_all, to_one, up_carries, up_to, UpOf, View, waits_for, WireFault, with_status, ◌∙◌}
-use Rattle.sim_server.proofs.Common.{◌==◌, Some, None, Ok, Err, filter, Option, Result, refl, ap, arith, Arrival, Ask, asked, bytes_eq-Decides, cond-false, Cut}
-use Rattle.sim_server.proofs.Common.{◌≡◌, ℕ, zero, suc, ◌+◌, ◌≤◌, Bool, true, false, not, List, [], ◌∷◌, ◌++◌, map, length, set, IfErr, if◌then◌else◌, IsOk}
 use Rattle.sim_plain.specs.declared.message.UpOf.TheVariants as up
 use Rattle.sim_wire.specs.declared.fault.WireFault.TheVariants as faults
+use Rattle.sim_server.proofs.Common.{Arrival, differs, filter, IsNoted, IsSilent, loading, posts_of, refusal, Refused, Release, status_in, waits_for, WireFault}
+use Rattle.sim_server.proofs.Common.{Bool, donor, false, Heard, IfErr, IsOk, List, Makes, None, Posts, posts, refl, Rules, Some, subst, true, up_to, UpOf, View}
+use Rattle.sim_server.proofs.Common.{GoesUnseen, IsSeated, IsUpFrame, least_done, post_list, posted_to, raised_to, RefusedFor, SaysNoted, server_of, up_carries}
+use Rattle.sim_server.proofs.Common.{[], ap, Cut, Err, In, map, not, Ok, Out, put, set, suc, zero, ℕ, ◌++◌, ◌+◌, ◌==◌, ◌∙◌, ◌∷◌, ◌≡◌, ◌≤◌}
+use Rattle.sim_server.proofs.Common.{arith, Ask, asked, le-ltb, length, nobody, Notice, Option, PostOf, raised, release, Result, Server, Status, to_all, to_one}
+use Rattle.sim_server.proofs.Common.{bytes_eq-Decides, cond-false, false≢true, if◌then◌else◌, IsClient, OutOfMemory, reference_in, ReleasesNothing, with_status}
+use Rattle.sim_server.proofs.Made.{list_nobody, list_release, status_set}
 
 abbrev Bytes : Type 0
 Bytes = List ℕ

@@ -1,9 +1,9 @@
 //! The clients to whom the server speaks at once. Whether one is told depends on what he is. They stand apart from the server,
 //! since it speaks to them as they will be, before anything is changed.
 
-ghost use Rattle.std.specs.Prelude.{◌≡◌, ℕ, ◌≤◌, false, ◌++◌, map, IfOk, if◌then◌else◌, OnOk, IsOk, filter};
-ghost use Rattle.sim_server.specs.{Common.to_all, Common.up_to, Common.waits_for, Views.cut_said, Views.status_in};
-ghost use Rattle.sim_server.specs.Common.{Ask, asked, nobody, Notice, post_list, posted_to, release};
+ghost use Rattle.std.specs.Prelude.{false, filter, IfOk, if◌then◌else◌, map, ℕ, ◌≡◌, ◌≤◌};
+ghost use Rattle.sim_server.specs.Common.{Ask, Notice, asked, nobody, post_list, posted_to, release, to_all, up_to, waits_for};
+ghost use Rattle.sim_server.specs.{Saying.Pushes, Saying.Says, Standing.cut_said, Standing.status_in};
 
 use crate::posts::{Post, Posts, copied};
 use crate::seats::{is_inside, least_in_of, status_of, waits};
@@ -40,8 +40,7 @@ impl Audience<'_> {
 
     /// The released turns to each client that is in, if they have risen.
     pub fn tell_release(&self, released: u32, risen: u32) -> Result<Posts, OutOfMemory>
-        ensures told { IfOk result (λ posts. posts ≡ post_list self.now.clients (release (status_in self.now.seats.now) released risen)) }
-        ensures quiet { risen ≤ released → IsOk result }
+        ensures { Says result (post_list self.now.clients (release (status_in self.now.seats.now) released risen)) (risen ≤ released) }
     {
         if released < risen {
             self.tell_all(&Down::Release { turn: risen })
@@ -51,11 +50,10 @@ impl Audience<'_> {
     }
 
     /// That the report of a client is another than the first, to each client that is in.
-    #[tactic(auto, using(crate::proofs::Said::list_nobody))]
+    #[tactic(auto, using(crate::proofs::Made::list_nobody))]
     pub fn tell_notice(&self, turn: u32, client: u8, is_other: bool) -> Result<Posts, OutOfMemory>
-        ensures told { IfOk result (λ posts. posts ≡ post_list self.now.clients
-            (if is_other then to_all (status_in self.now.seats.now) (Notice turn client) else nobody)) }
-        ensures quiet { is_other ≡ false → IsOk result }
+        ensures { Says result (post_list self.now.clients
+            (if is_other then to_all (status_in self.now.seats.now) (Notice turn client) else nobody)) (is_other ≡ false) }
     {
         if is_other {
             self.tell_all(&Down::Notice { turn, client })
@@ -66,9 +64,8 @@ impl Audience<'_> {
 
     /// What is said as a client goes that is out already.
     pub fn tell_cut(&self, released: u32, risen: u32, client: u8) -> Result<Posts, OutOfMemory>
-        ensures told { IfOk result (λ posts. posts ≡ post_list self.now.clients
-            (cut_said self.now.seats.now self.now.clients released risen client)) }
-        ensures quiet { risen ≤ released → ((j : ℕ) → waits_for client (status_in self.now.seats.now j) ≡ false) → IsOk result }
+        ensures { Says result (post_list self.now.clients (cut_said self.now.seats.now self.now.clients released risen client))
+            ((risen ≤ released) × ((j : ℕ) → waits_for client (status_in self.now.seats.now j) ≡ false)) }
     {
         let donor = least_in_of(self.seats, self.clients);
         let mut posts = Items::new(self.alloc);
@@ -87,8 +84,7 @@ impl Audience<'_> {
         released: u32,
         risen: u32,
     ) -> Result<(), OutOfMemory>
-        ensures told { OnOk result (posts.new ≡ posts.old ++ posted_to to (release (status_in self.now.seats.now) released risen to)) }
-        ensures quiet { risen ≤ released → IsOk result }
+        ensures { Pushes result (posted_to to (release (status_in self.now.seats.now) released risen to)) (risen ≤ released) posts.old posts.new }
     {
         if released < risen && is_inside(status_of(self.seats, to)) {
             posts.push(Post {
@@ -106,10 +102,9 @@ impl Audience<'_> {
         client: u8,
         to: u8,
     ) -> Result<(), OutOfMemory>
-        ensures told { OnOk result
-            (posts.new ≡ posts.old ++ posted_to to (asked donor (filter (λ j. waits_for client (status_in self.now.seats.now j)) (up_to self.now.clients))
-            (λ j. waits_for client (status_in self.now.seats.now j)) to)) }
-        ensures quiet { ((j : ℕ) → waits_for client (status_in self.now.seats.now j) ≡ false) → IsOk result }
+        ensures { Pushes result (posted_to to (asked donor (filter (λ j. waits_for client (status_in self.now.seats.now j)) (up_to self.now.clients))
+            (λ j. waits_for client (status_in self.now.seats.now j)) to))
+            ((j : ℕ) → waits_for client (status_in self.now.seats.now j) ≡ false) posts.old posts.new }
     {
         match donor {
             Some(other) => {
@@ -131,9 +126,8 @@ impl Audience<'_> {
 
     // One client is asked for each one that waits for another.
     fn push_each_ask(&self, posts: &mut Posts, client: u8, to: u8) -> Result<(), OutOfMemory>
-        ensures told { OnOk result (posts.new ≡ posts.old
-            ++ posted_to to (map Ask (filter (λ j. waits_for client (status_in self.now.seats.now j)) (up_to self.now.clients)))) }
-        ensures quiet { ((j : ℕ) → waits_for client (status_in self.now.seats.now j) ≡ false) → IsOk result }
+        ensures { Pushes result (posted_to to (map Ask (filter (λ j. waits_for client (status_in self.now.seats.now j)) (up_to self.now.clients))))
+            ((j : ℕ) → waits_for client (status_in self.now.seats.now j) ≡ false) posts.old posts.new }
     {
         for i in 0..self.clients {
             let waiting = i + 1;

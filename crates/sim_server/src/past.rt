@@ -1,7 +1,7 @@
 //! What a client has missed of a match as it loads a state: the commands that were kept, and how far the match has come.
 
-ghost use Rattle.std.specs.Prelude.{◌≡◌, ◌-◌, min, [], ◌∷◌, ◌++◌, length, IfOk, OnOk};
-ghost use Rattle.sim_server.specs.{Common.kept_above, Common.posted_to, Common.Release, Views.kept_in};
+ghost use Rattle.std.specs.Prelude.{[], IfOk, length, min, OnOk, ◌++◌, ◌-◌, ◌∷◌, ◌≡◌};
+ghost use Rattle.sim_server.specs.{Common.Release, Common.kept_above, Common.posted_to, Standing.kept_in};
 
 use crate::kept::{Orders, kept_of};
 use crate::posts::{Post, Posts, one, push_orders};

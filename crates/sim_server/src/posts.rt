@@ -1,7 +1,7 @@
 //! What the server says, as lists of posts by ascending receiver.
 
-ghost use Rattle.std.specs.Prelude.{◌≡◌, [], ◌∷◌, ◌++◌, map, IfOk, OnOk};
-ghost use Rattle.sim_server.specs.{Common.Command, Common.posted_to, Views.asked_one};
+ghost use Rattle.std.specs.Prelude.{[], IfOk, map, OnOk, ◌++◌, ◌∷◌, ◌≡◌};
+ghost use Rattle.sim_server.specs.{Common.Command, Common.posted_to, Standing.asked_one};
 
 use sim_base::{Items, OutOfMemory, PlayerCommand};
 use sim_plain::PostOf;

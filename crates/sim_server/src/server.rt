@@ -3,11 +3,11 @@
 //! A call that is refused memory leaves the server as it was: what it says is made before anything is changed, and lists
 //! by turn are grown by empty turns first, which say nothing.
 
-ghost use Rattle.std.specs.Prelude.{◌≡◌, ℕ, ◌<◌, ◌≤◌, true, false, List, [], IfOk, IsOk};
-ghost use Rattle.sim_server.specs.Common.{Arrival, Cut, Heard, is_out, IsUpFrame, raw, takes_state, up_carries, UpOf};
-ghost use Rattle.sim_server.specs.Silence.{IsNoted, IsSilent, ReleasesNothing, SaysNoted, SaysTheSame};
-ghost use Rattle.sim_server.specs.Standing.{Answers, is_dropped, IsClient, IsLater, Makes, server_of, StandsFor};
 ghost use Rattle.sim_plain.specs.declared.message.UpOf.TheVariants as up;
+ghost use Rattle.std.specs.Prelude.{[], false, IfOk, IsOk, List, true, ℕ, ◌<◌, ◌≡◌, ◌≤◌};
+ghost use Rattle.sim_server.specs.Common.{Arrival, Cut, Heard, is_out, IsUpFrame, raw, takes_state, up_carries, UpOf};
+ghost use Rattle.sim_server.specs.Standing.{Answers, is_dropped, IsClient, IsLater, IsNoted, IsSilent, Makes, ReleasesNothing, SaysNoted, SaysTheSame};
+ghost use Rattle.sim_server.specs.Standing.{server_of, StandsFor};
 
 use crate::audience::Audience;
 use crate::faults::{
@@ -182,7 +182,6 @@ impl Server {
         turn: u32,
         bytes: Bytes,
     ) -> Result<Posts, OutOfMemory>
-        requires { IsClient self.old from }
         ensures made { Makes self.old (Heard from (up.State client turn bytes)) result self.new }
         ensures dropped { takes_state (server_of self.old).released from turn ((server_of self.old).status client) ≡ false → IsOk result }
     {

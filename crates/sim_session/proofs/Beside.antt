@@ -1,17 +1,18 @@
 -- A client that acts beside the exchange makes just what the definition of a session says, over plain values.
-use Rattle.sim_session.proofs.{Common.Up, Common.◌∙◌, Stepping.rises_stay}
-use Rattle.sim_session.proofs.Common.{AreKept, arith, bending_follows, bends, bent, carry_up, cases_eq, client_of, Command, cond-false, cond-true, Conveys, cut}
-use Rattle.sim_session.proofs.Common.{Did, Done, eq-eqb, Event, events_by, false≢true, Follows, has_happened, HasFewIds, Held, Idle, inl, inr, On, order_shown}
-use Rattle.sim_session.proofs.Common.{ordered, ordering_follows, orders, OutOfMemory, Phase, pipe_in, played_events, Option, Result, refl, Act, Acted, acts}
-use Rattle.sim_session.proofs.Common.{All-cons, All-nil, Answers, ap, append-nil, AreBuilt, AreBuiltIf, AreFrames, Session, Setup, shows, shows_after, spelled}
-use Rattle.sim_session.proofs.Common.{StandBeside, Step, stepped_by, subst, sym, Systems, Tells, told, is_off, IsBuiltOnceAtMost, IsSmallUp, IsUpFrame}
-use Rattle.sim_session.proofs.Common.{join_shown, Joining, joining_follows, joins, put_same, leave_events, leaves, Life, life_after, Lives, Makes, may_bend}
-use Rattle.sim_session.proofs.Common.{may_order, Meaning, ne_eqb, Off, playing_follows, plays, put, rise_events, rises, row_of, Said, said_by, said_events}
-use Rattle.sim_session.proofs.Common.{says_of, ◌≡◌, ℕ, Bool, true, false, ◌⊎◌, List, [], ◌∷◌, ◌++◌, map, ℤ, IfOk, if◌then◌else◌, OnOk, Some, None, Ok, Err, All}
 use Rattle.sim_base.specs.declared.step.Event.TheVariants as event
 use Rattle.sim_base.specs.declared.step.Step.TheVariants as step
 use Rattle.sim_plain.specs.declared.message.UpOf.TheVariants as up
 use Rattle.sim_plain_session.specs.Clients as plain
+use Rattle.sim_session.proofs.Common.{IfOk, if◌then◌else◌, inl, inr, is_off, IsBuiltOnceAtMost, IsSmallUp, IsUpFrame, join_shown, Joining, joining_follows}
+use Rattle.sim_session.proofs.Common.{None, Off, Ok, On, OnOk, Option, order_shown, ordered, ordering_follows, orders, OutOfMemory, Phase, pipe_in}
+use Rattle.sim_session.proofs.Common.{Systems, systems_on, Tells, told, true, Up, ℕ, ℤ, ◌++◌, ◌∙◌, ◌∷◌, ◌≡◌, ◌⊎◌}
+use Rattle.sim_session.proofs.Common.{[], Act, Acted, acts, ActsBy, All, All-cons, All-nil, Answers, ap, append-nil, AreBuilt, AreBuiltIf, AreFrames, AreKept}
+use Rattle.sim_session.proofs.Common.{arith, bending_follows, bends, bent, Bool, carry_up, cases_eq, Client, client_of, Command, cond-false, cond-true, Conveys}
+use Rattle.sim_session.proofs.Common.{cut, Did, Done, eq-eqb, Err, Event, events_by, false, false≢true, Follows, has_happened, has_load, HasFewIds, Held, Idle}
+use Rattle.sim_session.proofs.Common.{joins, leave_events, leaves, Life, life_after, List, Lives, LoadsBy, Makes, map, may_bend, may_order, Meaning, ne_eqb}
+use Rattle.sim_session.proofs.Common.{played_events, playing_follows, plays, put, put_same, refl, Result, rise_events, rises, row_of, Said, said_by}
+use Rattle.sim_session.proofs.Common.{said_events, says_of, Session, Setup, shows, shows_after, Some, spelled, StandBeside, Step, stepped_by, subst, sym}
+use Rattle.sim_session.proofs.Stepping.{rises_stay}
 use Rattle.{sim_board.proofs.Counting.not_built, sim_client.proofs.Small.orders_small, sim_client.proofs.Small.plays_small}
 
 -- ---- answers
@@ -271,3 +272,25 @@ cut_makes setup c old new before behind events on is told stands = record {
     by s held (On player) on plain.Off lives = absurd lives
     by s held (On player) on plain.Joining lives = absurd lives
     by s held (On player) on (plain.On seat) lives = (gone s held, refl)
+
+-- A client that acts without loading a state does what one may that loads one.
+
+each : {V E : Type 0} {Q : V → Type 0} (result : Result V E) → ((v : V) → Q v) → IfOk result Q
+each (Ok v) all = all v
+each (Err e) all = tt
+
+pub acted : {Y X : Type 0} {G : Y → Type 0} {F : X → Type 0} {M : _} {E : Type 0} (m : (i : X) → F i → Meaning) (x : Step) (Nothing : Type 0)
+    (result : Result (List Event) E) (old : Client Y X G F M) (before : Held) (new : Client Y X G F M) (behind : Held)
+    → ActsBy m x Nothing result old before new behind → LoadsBy m x result old before new behind
+acted m x Nothing result old before new behind acts =
+    let were = systems_on old.board m in
+    let are = systems_on new.board m in
+    record {
+      made = acts.made;
+      sound = acts.sound;
+      built = each result (λ events. kept_built (has_load events) were are acts.kept);
+      most = kept_most were are acts.kept;
+      loads = λ s at. kept_built (has_load (events_by old.setup.now s x)) were are acts.kept;
+      setup = acts.setup;
+      rules = acts.rules;
+    }

@@ -1,10 +1,16 @@
 -- How often systems were built, over one step and then another.
-use Rattle.std.proofs.{Common.⊎_elim, Math.ListN.get_or-append, lemmas.Bool.cases_eq, lemmas.Bool.cases_lt}
-use Rattle.sim_session.proofs.TextCommon.{AllBuiltAtMost, ap, AreBuiltIf, arith, begun_by, ChangeAt, Event, has_load, le-leb, loads_in, Meaning, nowhere}
-use Rattle.sim_session.proofs.TextCommon.{StartsOnly, subst, sym, Systems, ◌∙◌}
-use Rattle.sim_session.proofs.TextCommon.{◌≡◌, ℕ, ◌+◌, ◌-◌, ◌<◌, ◌≤◌, Bool, true, false, List, ◌++◌, length, get_or, if◌then◌else◌, nat_le, refl}
-use Rattle.sim_session.specs.Rigs.{AreBuiltAtMost, IsBuiltAtMost}
-use Rattle.sim_system.specs.Meanings.{AreBuiltOnceAtMost, HaveSameRebuilds, IsBuiltOnceAtMost}
+use Rattle.sim_session.proofs.TextCommon.{[], All, AllBuiltAtMost, ap, AreBuiltIf, arith, begun_by, Bool, builds_of, ChangeAt, client_of, Event, events}
+use Rattle.sim_session.proofs.TextCommon.{events_after, false, get_or, has_load, if◌then◌else◌, le-leb, length, length-map, List, loads_in, map, Meaning}
+use Rattle.sim_session.proofs.TextCommon.{nat_le, nowhere, opened, refl, session, Setup, start_events, StartsOnly, Step, StepList, subst, sym, Systems}
+use Rattle.sim_session.proofs.TextCommon.{systems_on, take, true, ℕ, ◌++◌, ◌+◌, ◌-◌, ◌<◌, ◌∙◌, ◌∷◌, ◌≡◌, ◌≤◌}
+use Rattle.sim_session.proofs.{Coming.all_back, Coming.same_count, Loads.loads_are_own, MoreSteps.loads_behind, MoreSteps.loads_within, TextCommon.systems_by}
+use Rattle.sim_session.specs.{Going.ComeBackBy, Going.IsSessionBy, Going.KeepsBy, Going.MayBeginBy, Going.MayFinishBy, Going.rigs_by, Laws.AreBuiltAtMost}
+use Rattle.sim_system.specs.Meanings.{AreBuiltOnceAtMost, HaveKinds, HaveSameRebuilds, IsBuiltOnceAtMost, all_cleared}
+use Rattle.std.proofs.lemmas.List.Elements.{All-append, All-cons, All-drop, All-nil, All-set}
+use Rattle.std.proofs.lemmas.List.{drop-map, get_or-map, get_or-set_other, get_or-set_same, map-set, take-append-drop, take_more_set}
+use Rattle.std.proofs.{Common.drop, Common.⊎_elim, Math.ListN.get_or-append, Math.ListN.set, lemmas.Bool.cases_eq, lemmas.Bool.cases_lt}
+use Rattle.{sim_client.specs.StageWords.AreCleared, sim_session.specs.Laws.IsBuiltAtMost, sim_session.specs.declared.session.Session.Session}
+use Rattle.{sim_system.specs.RigWords.systems_by as rig_by, sim_system.specs.declared.rig.Rig.Rig, std.specs.Prelude.Vec, std.specs.Prelude.vec_capacity}
 
 one_so : (j k most : ℕ) (l m n : Meaning) → j + k ≤ most → IsBuiltAtMost j l m → IsBuiltAtMost k m n → IsBuiltAtMost most l n
 one_so j k most l m n few first second = record { low = omega (arith, first.low, second.low); high = omega (arith, few, first.high, second.high) }
@@ -104,3 +110,149 @@ front_built most players old new kept spare given out given_is out_is many more 
     get_or-append new spare nowhere (c - 1) (omega (arith, more, low, high)) in
     subst (λ (s : Systems). AreBuiltAtMost (most c) s (get_or out (c - 1) nowhere)) (sym at)
     (subst (AreBuiltAtMost (most c) (get_or old (c - 1) nowhere)) (sym now) (built c low high))
+
+-- A step at which a session ends for want of memory: systems were built no more often by then than over all steps.
+
+-- by the steps so far, and by the one more
+pub built_by_then : (setup : Setup) (active n : ℕ) (steps : List Step) (x : Step) (first were are : List Systems) → n < length steps → x ≡ get_or steps n x
+    → 0 < client_of x → length were ≡ setup.players
+    → AllBuiltAtMost (loads_in (events_after setup (opened setup active) (take n steps))) setup.players first were
+    → ChangeAt (AreBuiltIf (has_load (events setup (session setup active (take n steps)) x))) (client_of x - 1) were are
+    → AllBuiltAtMost (loads_in (events_after setup (opened setup active) steps)) setup.players first are
+built_by_then setup active n steps x first were are lt is number count built change =
+    let s = session setup active (take n steps) in
+    all_built_so (loads_in (events_after setup (opened setup active) (take n steps))) (loads_in (events setup s x))
+    (loads_in (events_after setup (opened setup active) steps)) setup.players first were are
+    (λ k. loads_within setup active n steps x k lt is) built (step_built (client_of x) setup.players (events setup s x) were are number count
+    (loads_are_own setup s x) change)
+
+-- by the beginning alone
+pub built_at_start : (setup : Setup) (list : StepList) (first next : List Systems) → length first ≡ setup.players → StartsOnly list.clients first next
+    → AllBuiltAtMost (builds_of setup list) setup.players first next
+built_at_start setup list first next many starts =
+    all_built_so (begun_by list.clients) (λ k. 0) (builds_of setup list) setup.players first next next (λ k. omega arith)
+    (start_built list.clients setup.players first next many starts)
+    (none_built (λ k. 0) setup.players next)
+
+-- by the beginning, and by steps
+pub built_with_steps : (setup : Setup) (list : StepList) (first next last : List Systems) → length first ≡ setup.players → StartsOnly list.clients first next
+    → AllBuiltAtMost (loads_in (events_after setup (opened setup list.clients) list.steps)) setup.players next last
+    → AllBuiltAtMost (builds_of setup list) setup.players first last
+built_with_steps setup list first next last many starts steps =
+    let made = events_after setup (opened setup list.clients) list.steps in
+    all_built_so (begun_by list.clients) (loads_in made) (builds_of setup list) setup.players first next last
+    (λ k. omega (arith, loads_behind k (start_events setup list.clients) made)) (start_built list.clients setup.players first next many starts) steps
+
+-- What a session keeps over a call and another, and what of its rigs comes back behind both.
+
+module _ {Y X : Type 0} {G : Y → Type 0} {F : X → Type 0} {M : _} (m : (i : X) → F i → Meaning) where
+  pub kept : (a : Session Y X G F M) → MayFinishBy a m → KeepsBy m a a
+  kept a finish = record { finish = finish; setup = refl; spare = refl; room = refl; count = refl }
+
+  pub keeps_on : (a b c : Session Y X G F M) → KeepsBy m a b → KeepsBy m b c → KeepsBy m a c
+  keeps_on a b c one two = record {
+    finish = two.finish;
+    setup = two.setup ∙ one.setup;
+    spare = two.spare ∙ one.spare;
+    room = two.room ∙ one.room;
+    count = two.count ∙ one.count;
+  }
+
+  -- as many systems are those of clients at the beginning as the match has players, and in the end
+  many_begun : (setup : Setup) (begun : Session Y X G F M) → IsSessionBy begun m → begun.setup.now ≡ setup
+      → length (systems_by begun.clients.items m) ≡ setup.players
+  many_begun setup begun whole same = length-map begun.clients.items (λ x. systems_on x.board m) ∙ whole.count ∙ ap (λ (s : Setup). s.players) same
+
+  pub many_ended : (setup : Setup) (begun ended : Session Y X G F M) → IsSessionBy begun m → begun.setup.now ≡ setup → KeepsBy m begun ended
+      → length (systems_by ended.clients.items m) ≡ setup.players
+  many_ended setup begun ended whole same keeps = length-map ended.clients.items (λ x. systems_on x.board m) ∙ keeps.count ∙ whole.count
+      ∙ ap (λ (s : Setup). s.players) same
+
+  -- of a session that began with these rigs, and was finished
+  pub came_back : {A : Type 0} (setup : Setup) (begun ended : Session Y X G F M) (given out : Vec (Rig X F) A) → MayBeginBy m setup given.items
+      → IsSessionBy begun m → begun.setup.now ≡ setup
+      → systems_by begun.clients.items m ++ rigs_by begun.rigs.items m ≡ rigs_by given.items m
+      → begun.rigs.items ≡ drop setup.players given.items → vec_capacity begun.rigs ≡ vec_capacity given → KeepsBy m begun ended
+      → rigs_by out.items m ≡ systems_by ended.clients.items m ++ rigs_by ended.rigs.items m
+      → drop (length (systems_by ended.clients.items m)) out.items ≡ ended.rigs.items → vec_capacity out ≡ vec_capacity ended.rigs
+      → ComeBackBy m setup given out
+  came_back setup begun ended given out may whole same came spare room keeps back behind wide = record {
+    kinds = all_back HaveKinds (λ r. rig_by r m) (λ x. systems_on x.board m) out.items given.items ended.rigs.items ended.clients.items setup.players back
+        (keeps.spare ∙ spare) keeps.finish.kinds may.fresh.kinds;
+    spare = sym (ap (λ (n : ℕ). drop n out.items) (many_ended setup begun ended whole same keeps)) ∙ behind ∙ keeps.spare ∙ spare;
+    eight = same_count (λ r. rig_by r m) (λ x. systems_on x.board m) out.items given.items begun.rigs.items ended.rigs.items begun.clients.items
+        ended.clients.items back came keeps.count keeps.spare ∙ may.eight;
+    room = wide ∙ keeps.room ∙ room;
+  }
+
+  pub built_back : (setup : Setup) (list : StepList) (begun ended : Session Y X G F M) (given out : List (Rig X F)) → IsSessionBy begun m
+      → begun.setup.now ≡ setup
+      → systems_by begun.clients.items m ++ rigs_by begun.rigs.items m ≡ rigs_by given m → KeepsBy m begun ended
+      → AllBuiltAtMost (builds_of begun.setup.now list) begun.setup.now.players (systems_by begun.clients.items m) (systems_by ended.clients.items m)
+      → rigs_by out m ≡ systems_by ended.clients.items m ++ rigs_by ended.rigs.items m
+      → AllBuiltAtMost (builds_of setup list) setup.players (rigs_by given m) (rigs_by out m)
+  built_back setup list begun ended given out whole same came keeps built back =
+      front_built (builds_of setup list) setup.players (systems_by begun.clients.items m) (systems_by ended.clients.items m) (rigs_by begun.rigs.items m)
+      (rigs_by ended.rigs.items m) (rigs_by given m) (rigs_by out m) (sym came) back (many_begun setup begun whole same)
+      (many_ended setup begun ended whole same keeps)
+      (subst (λ (s : Setup). AllBuiltAtMost (builds_of s list) s.players (systems_by begun.clients.items m) (systems_by ended.clients.items m)) same built)
+
+-- Rigs that forget all, one after another.
+
+forgotten : (s : Systems) → AreCleared (all_cleared s)
+forgotten s = record {
+  ground = record { land = refl; facts = refl };
+  range = record { land = refl; facts = refl };
+  watch = record { land = refl; facts = refl };
+  census = record { land = refl; facts = refl };
+}
+
+same_kinds : (s : Systems) → HaveKinds s → HaveKinds (all_cleared s)
+same_kinds s h = record { ground = h.ground; range = h.range; watch = h.watch; census = h.census }
+
+unbuilt : (s : Systems) → AreBuiltAtMost 0 s (all_cleared s)
+unbuilt s = record {
+  ground = record { low = omega arith; high = omega arith };
+  range = record { low = omega arith; high = omega arith };
+  watch = record { low = omega arith; high = omega arith };
+  census = record { low = omega arith; high = omega arith };
+}
+
+-- the systems of rigs of which one was cleared
+pub next_cleared : {A : Type 0} (f : A → Systems) (xs : List A) (i : ℕ) (old new : A) → i < length xs → old ≡ get_or xs i old → f new ≡ all_cleared (f old)
+    → map f (set xs i new) ≡ set (map f xs) i (all_cleared (get_or (map f xs) i nowhere))
+next_cleared f xs i old new within is made =
+    map-set f xs i new ∙ ap (set (map f xs) i) (made ∙ ap all_cleared (ap f is ∙ sym (get_or-map f xs i old nowhere within)))
+
+-- one more
+module _ (i : ℕ) (old new : List Systems) (within : i < length old) (is : new ≡ set old i (all_cleared (get_or old i nowhere))) where
+  pub cleared_more : All AreCleared (take i old) → All AreCleared (take (i + 1) new)
+  cleared_more h =
+      let s : Systems = all_cleared (get_or old i nowhere) in
+      subst (All AreCleared) (sym (ap (take (i + 1)) is ∙ take_more_set old i s within))
+      (All-append AreCleared (take i old) (s ∷ []) h (All-cons AreCleared s [] (forgotten (get_or old i nowhere)) (All-nil AreCleared)))
+
+  pub kinds_more : All HaveKinds old → All HaveKinds new
+  kinds_more h =
+      subst (All HaveKinds) (sym is) (All-set HaveKinds old i (all_cleared (get_or old i nowhere)) (same_kinds (get_or old i nowhere) (h i nowhere within)) h)
+
+  pub unbuilt_more : (count : ℕ) (first : List Systems) → AllBuiltAtMost (λ c. 0) count first old → AllBuiltAtMost (λ c. 0) count first new
+  unbuilt_more count first h =
+      all_built_so (λ c. 0) (λ c. 0) (λ c. 0) count first old new (λ c. omega arith) h
+      (λ c low high. subst (λ (xs : List Systems). AreBuiltAtMost 0 (get_or old (c - 1) nowhere) (get_or xs (c - 1) nowhere)) (sym is)
+      (⊎_elim
+      (λ same. subst (λ (k : ℕ). AreBuiltAtMost 0 (get_or old k nowhere) (get_or (set old i (all_cleared (get_or old i nowhere))) k nowhere)) (sym same)
+      (subst (AreBuiltAtMost 0 (get_or old i nowhere)) (sym (get_or-set_same old i (all_cleared (get_or old i nowhere)) nowhere within))
+      (unbuilt (get_or old i nowhere))))
+      (λ other. never_built 0 (get_or old (c - 1) nowhere) (get_or (set old i (all_cleared (get_or old i nowhere))) (c - 1) nowhere)
+      (get_or-set_other old i (c - 1) (all_cleared (get_or old i nowhere)) nowhere other))
+      (cases_eq (c - 1) i)))
+
+-- the first so many are, and the others are as they came
+pub cleared_back : {A : Type 0} (f : A → Systems) (out given : List A) (n : ℕ) → drop n out ≡ drop n given → All AreCleared (take n (map f out))
+    → All AreCleared (map f given) → All AreCleared (map f out)
+cleared_back {A} f out given n same front all =
+    let came : All AreCleared (map f (drop n given)) = subst (All AreCleared) (drop-map f n given) (All-drop AreCleared n (map f given) all) in
+    let behind : All AreCleared (drop n (map f out)) =
+    subst (All AreCleared) (sym (drop-map f n out)) (subst (λ (xs : List A). All AreCleared (map f xs)) (sym same) came) in
+    subst (All AreCleared) (take-append-drop n (map f out)) (All-append AreCleared (take n (map f out)) (drop n (map f out)) front behind)

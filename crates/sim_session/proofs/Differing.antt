@@ -1,11 +1,11 @@
 -- Clients that differ at one turn have different states.
-use Rattle.{sim_diff.specs.Difference.difference_of, sim_diff.specs.declared.place.Place.Place, sim_laws.proofs.Turning.after_counts_turns}
-use Rattle.{sim_plain_session.specs.Clients.On, sim_plain_session.specs.Clients.Seat, std.proofs.lemmas.Bool.eqb-true}
-use Rattle.{sim_session_laws.proofs.PastFacts.unbent_agree, sim_session_laws.proofs.StandingFacts.pasts_are_always_valid, sim_session.proofs.TextCommon.◌∙◌}
 use Rattle.sim_diff.proofs.{LeastPlace.difference_of-none, OneSpelling.same-no_difference, OneSpelling.same_bits-spelling, OneSpelling.spelling-same}
-use Rattle.sim_session.proofs.TextCommon.{cond-true, eq-eqb, holds_session, inl, IsValid, lt-ltb, Phase, session_of, Setup, State, state_at, sym, turns_in}
-use Rattle.sim_session.proofs.TextCommon.{◌≡◌, ℕ, Bool, true, false, List, [], if◌then◌else◌, nat_lt, ◌==◌, Some, None, Option, refl, after, ap, clients_apart}
-use Rattle.sim_session.specs.{Laws.ApartWhereDifferent, Laws.UnbentAreTogether, Pairs.apart_at, Pairs.both_apart, Pairs.states_apart}
+use Rattle.sim_session.proofs.TextCommon.{Bool, clients_apart, cond-true, eq-eqb, holds_session, if◌then◌else◌, IsValid, lt-ltb, session_of, state_at, turns_in}
+use Rattle.sim_session.proofs.TextCommon.{[], after, ap, false, inl, List, nat_lt, None, Option, Phase, refl, Setup, Some, State, sym, true, ℕ, ◌==◌, ◌∙◌, ◌≡◌}
+use Rattle.sim_session.specs.Laws.{UnbentAreTogether, apart_at, both_apart, states_apart}
+use Rattle.{sim_diff.specs.Difference.difference_of, sim_diff.specs.declared.place.Place.Place, sim_laws.proofs.Turning.after_counts_turns}
+use Rattle.{sim_plain_session.specs.Clients.On, sim_plain_session.specs.Clients.Seat, sim_session.specs.Laws.ApartWhereDifferent}
+use Rattle.{sim_session_laws.proofs.Fitting.pasts_are_always_valid, sim_session_laws.proofs.Fitting.unbent_agree, std.proofs.lemmas.Bool.eqb-true}
 
 -- a line has at least one character
 no_line : (a b : ℕ) (place : Option Place) → apart_at a b place ≡ [] → place ≡ None

@@ -1,10 +1,10 @@
 -- One arrival more at the end of a list, and one turn more.
-use Rattle.{sim_base.specs.declared.command.PlayerCommand.PlayerCommand, sim_report.specs.Downs.post_line, std.specs.Prelude.All, std.specs.Prelude.flat_map}
-use Rattle.std.proofs.{Common.length-append, Common.subst, Common.sym, Common.◌∙◌, lemmas.Grind.flat_map-append}
-use Rattle.std.proofs.Common.{◌≡◌, ℕ, ◌+◌, ◌<◌, ◌≤◌, List, [], ◌∷◌, ◌++◌, map, length, get_or, refl, add-one, ap, append-nil, append_assoc, arith}
-use Rattle.sim_lists.specs.{Arrivals.plain_arrival, Schedules.IsFromClient, declared.schedule.Arrival.Arrival as Listed}
-use Rattle.sim_plain.specs.{Messages.Arrival, Posts.posts_of, Posts.served, Server.server_after, declared.message.PostOf.PostOf, declared.rules.Rules.Rules}
-use Rattle.sim_session.specs.Served.{history, kept_lines, kept_of, said_lines}
+use Rattle.sim_plain.specs.{Messages.Arrival, Server.posts_of, Server.served, Server.server_after, declared.message.PostOf.PostOf, declared.rules.Rules.Rules}
+use Rattle.std.proofs.Common.{[], add-one, ap, append-nil, append_assoc, arith, get_or, length, length-append, List, map, refl, subst, sym, ℕ, ◌++◌, ◌+◌, ◌<◌}
+use Rattle.std.proofs.{Common.◌∙◌, Common.◌∷◌, Common.◌≡◌, Common.◌≤◌, lemmas.Grind.flat_map-append}
+use Rattle.{sim_base.specs.declared.command.PlayerCommand.PlayerCommand, sim_lists.specs.declared.schedule.Arrival.Arrival as Listed, std.specs.Prelude.All}
+use Rattle.{sim_lists.specs.Arrivals.plain_arrival, sim_lists.specs.StepLists.IsFromClient, sim_session.specs.Served.kept_lines, std.specs.Prelude.flat_map}
+use Rattle.{sim_report.specs.Downs.post_line, sim_session.specs.Served.history, sim_session.specs.Served.kept_of, sim_session.specs.Served.said_lines}
 
 pub history-append : {B : Type 0} (h xs : List (Arrival B)) (a : Arrival B) → history h (xs ++ a ∷ []) ≡ a ∷ history h xs
 history-append h [] a = refl

@@ -1,14 +1,10 @@
 pub mod Common
-pub mod Seating
 pub mod Stepping
 pub mod Beside
-pub mod Acted
 pub mod Idling
 pub mod Heard
-pub mod Starting
 pub mod Leaving
 pub mod Opening
-pub mod Moving
 pub mod TextCommon
 pub mod Telling
 pub mod Showing
@@ -19,11 +15,7 @@ pub mod NextClients
 pub mod Beginning
 pub mod MoreSteps
 pub mod Coming
-pub mod Keeping
-pub mod HostTelling
-pub mod Loads
 pub mod Builds
-pub mod Stopping
-pub mod Clearing
+pub mod Loads
 pub mod Histories
 pub mod Saying

@@ -1,14 +1,14 @@
 -- A load among the events of a step is one of its client.
-use Rattle.{sim_base.specs.Rows.row_of, sim_base.specs.Turn.may_bend, sim_plain.specs.Messages.Heard, sim_plain.specs.Notices.noticed}
-use Rattle.std.proofs.lemmas.Bool.{true≢false}
-use Rattle.sim_plain_session.specs.{Pasts.rules_of, Printed.events_by, Printed.fall_events, Printed.leave_events, Printed.rise_events}
-use Rattle.sim_plain_session.specs.Clients.{Acted, bends, bent_seat, Down, hears, idle, Joining, joins, may_order, may_play, may_tell_done, Off, On, ordered}
-use Rattle.sim_plain_session.specs.Clients.{orders, played, plays, shows_bend, state_of, told_alone, told_with_done, Up}
-use Rattle.sim_session.proofs.TextCommon.{eq-eqb, Event, events, has_load, is_client, loads_in, Phase, Session, Setup, Step, subst, sym, turns_in, ◌∙◌}
-use Rattle.sim_session.proofs.TextCommon.{◌≡◌, ℕ, ◌+◌, ◌≤◌, Bool, true, false, List, [], ◌∷◌, map, if◌then◌else◌, ◌==◌, refl, after, arith, client_of, digest}
 use Rattle.sim_base.specs.declared.step.Event.TheVariants as event
 use Rattle.sim_base.specs.declared.step.Step.TheVariants as step
 use Rattle.sim_plain.specs.declared.message.DownOf.TheVariants as down
+use Rattle.sim_plain_session.specs.Clients.{Acted, bends, bent_seat, Down, hears, idle, Joining, joins, may_order, may_play, may_tell_done, Off, On, ordered}
+use Rattle.sim_plain_session.specs.Clients.{Up, orders, played, plays, shows_bend, state_of, told_alone, told_with_done}
+use Rattle.sim_plain_session.specs.{Pasts.rules_of, Sessions.events_by, Sessions.fall_events, Sessions.leave_events, Sessions.rise_events}
+use Rattle.sim_session.proofs.TextCommon.{Phase, Session, Setup, Step, loads_in, map, refl, subst, sym, true, turns_in, ℕ, ◌+◌, ◌==◌, ◌∙◌, ◌∷◌, ◌≡◌, ◌≤◌}
+use Rattle.sim_session.proofs.TextCommon.{[], after, arith, Bool, client_of, digest, eq-eqb, Event, events, false, has_load, if◌then◌else◌, is_client, List}
+use Rattle.std.proofs.lemmas.Bool.{true≢false}
+use Rattle.{sim_base.specs.Rows.row_of, sim_base.specs.Turn.may_bend, sim_plain.specs.Messages.Heard, sim_plain.specs.Server.noticed}
 
 -- where one of these events is a load, one of them is a load of this client
 abbrev OwnLoads : ℕ → List Event → Type 0

@@ -1,9 +1,9 @@
 -- A step behind other steps.
-use Rattle.{sim_plain_session.specs.Sessions.after_steps, std.proofs.lemmas.List.take_more, std.proofs.lemmas.List.Sums.sum_by-append, std.specs.Prelude.cond}
-use Rattle.sim_session.proofs.TextCommon.{Event, event_line, events, events_after, flat_map-append, lines_of, loads_in, opened, Seen, Session, session, Setup}
-use Rattle.sim_session.proofs.TextCommon.{StandsFor, Step, stepped, Steps, subst, sym, ◌∙◌}
-use Rattle.sim_session.proofs.TextCommon.{◌≡◌, ℕ, zero, suc, ◌+◌, ◌<◌, ◌≤◌, List, [], ◌∷◌, ◌++◌, length, get_or, take, ap, append-nil, append_assoc, arith}
-use Rattle.sim_session.specs.Rigs.{is_load_of}
+use Rattle.sim_session.proofs.TextCommon.{[], ap, append-nil, append_assoc, arith, Event, event_line, events, events_after, flat_map-append, get_or, length}
+use Rattle.sim_session.proofs.TextCommon.{lines_of, List, loads_in, opened, Seen, Session, session, Setup, StandsFor, Step, stepped, Steps, subst, suc, sym}
+use Rattle.sim_session.proofs.TextCommon.{take, zero, ℕ, ◌++◌, ◌+◌, ◌<◌, ◌∙◌, ◌∷◌, ◌≡◌, ◌≤◌}
+use Rattle.std.{proofs.lemmas.List.take_more, specs.Prelude.cond}
+use Rattle.{sim_plain_session.specs.Sessions.after_steps, sim_session.specs.Laws.is_load_of, std.proofs.lemmas.List.Sums.sum_by-append}
 
 -- its events come behind theirs
 events_more : (setup : Setup) (s : Session) (xs : List Step) (x : Step) → events_after setup s (xs ++ x ∷ []) ≡ events_after setup s xs ++

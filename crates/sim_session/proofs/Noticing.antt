@@ -1,7 +1,7 @@
 -- The events of the start have no notice.
-use Rattle.{sim_plain_session.proofs.Arrived.notices_are_of_arrivals, sim_plain_session.specs.Laws.notices_in, sim_session.specs.Laws.NoticesAreOfReports}
-use Rattle.sim_session.proofs.TextCommon.{◌≡◌, ℕ, List, [], ◌∷◌, ◌++◌, map, refl, Event, events_after, opened, up_to, ◌∙◌}
 use Rattle.sim_base.specs.declared.step.Event.TheVariants as event
+use Rattle.sim_session.proofs.TextCommon.{[], Event, events_after, List, map, opened, refl, up_to, ℕ, ◌++◌, ◌∙◌, ◌∷◌, ◌≡◌}
+use Rattle.{sim_plain_session.proofs.Arrived.notices_are_of_arrivals, sim_plain_session.specs.Sessions.notices_in, sim_session.specs.Laws.NoticesAreOfReports}
 
 starts_have_none : (g : List ℕ) (cs : List ℕ) (rest : List Event) → notices_in (map (λ c. event.Start c g) cs ++ rest) ≡ notices_in rest
 starts_have_none g [] rest = refl

@@ -1,12 +1,11 @@
 -- A client that reports is told its own notice.
-use Rattle.{sim_plain.proofs.Notices.notices_are, sim_plain.proofs.Told.notices_are_told, std.specs.Prelude.filter_map}
-use Rattle.std.proofs.Common.{◌≡◌, ℕ, Bool, true, false, List, [], ◌∷◌, ◌++◌, is_none, if◌then◌else◌, refl, sym, true≢false, ◌∙◌}
-use Rattle.sim_plain.specs.{Messages.Arrival, Messages.Cut, Messages.Heard, Messages.sender, declared.rules.Rules.Rules}
-use Rattle.sim_plain.specs.{Notices.notice_in, Notices.noticed, Notices.notices, Notices.notices_given, Posts.posts}
-use Rattle.sim_plain.specs.Server.{command_fault, done_fault, is_in, is_out, report_fault, Server, server_after, takes_state}
-use Rattle.sim_plain.specs.declared.status.Status.{Status, TheVariants.In, TheVariants.Out, TheVariants.Waiting}
-use Rattle.{sim_plain.proofs.Told.none_told, sim_plain.proofs.Told.told, sim_session.specs.ServedLaws.told_to_senders}
 use Rattle.sim_plain.specs.declared.message.UpOf.TheVariants as up
+use Rattle.sim_plain.specs.Server.{command_fault, done_fault, is_in, is_out, notice_in, noticed, notices, notices_given, posts, report_fault, Server}
+use Rattle.sim_plain.specs.declared.status.Status.{Status, TheVariants.In, TheVariants.Out, TheVariants.Waiting}
+use Rattle.sim_plain.specs.{Messages.Arrival, Messages.Cut, Messages.Heard, Messages.sender, Server.server_after, Server.takes_state}
+use Rattle.sim_plain.{proofs.Dones.notices_are, proofs.Told.none_told, proofs.Told.notices_are_told, proofs.Told.told, specs.declared.rules.Rules.Rules}
+use Rattle.std.proofs.Common.{[], Bool, false, if◌then◌else◌, is_none, List, refl, sym, true, true≢false, ℕ, ◌++◌, ◌∙◌, ◌∷◌, ◌≡◌}
+use Rattle.{sim_session.specs.ServedLaws.told_to_senders, std.specs.Prelude.filter_map}
 
 abbrev Bytes : Type 0
 Bytes = List ℕ

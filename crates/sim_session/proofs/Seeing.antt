@@ -1,12 +1,13 @@
 -- What is seen of clients that have states is what is told of those that have pasts.
-use Rattle.{sim_plain_session.proofs.PlayerLemmas.same_turn, sim_session.specs.Endings.end_lines, sim_session.specs.Pairs.apart_lines}
-use Rattle.sim_pipes.specs.Pipes.{AreFrames}
-use Rattle.sim_session.proofs.{TextCommon.State, TextCommon.state_at, TextCommon.state_of, TextCommon.told_of, Telling.told_same}
-use Rattle.sim_session.proofs.TextCommon.{end_seen, ends_seen, Joining, Life, Lives, Off, On, pair_apart, pipe_in, pipe_line, pipes_seen, Session, Setup}
-use Rattle.sim_session.proofs.TextCommon.{◌≡◌, ℕ, ◌<◌, ◌≤◌, List, [], ◌∷◌, ◌++◌, map, Some, codes, refl, ap, beside_seen, clients_apart, end_line, end_of}
-use Rattle.sim_session.specs.{Pipes.down_frames, Pipes.pipe_lines, Pipes.pipes_of, Pipes.up_frames, Seen.AllLive, Seen.EndingsAreSeen, Seen.pairs_seen}
-use Rattle.sim_wire.specs.{Fits.IsDownFrame, Fits.IsUpFrame, Frames.down_frame, Frames.up_frame}
 use Rattle.sim_plain_session.specs.Clients as plain
+use Rattle.sim_session.proofs.TextCommon.{[], ap, append_assoc, beside_seen, clients_apart, codes, end_line, end_of, end_seen, ending_seen, ends_seen}
+use Rattle.sim_session.proofs.TextCommon.{event_line, events_after, flat_map-append, Joining, Life, life_of, lines_of, List, Lives, map, Off, On, opened}
+use Rattle.sim_session.proofs.TextCommon.{pair_apart, pipe_in, pipe_line, pipes_seen, refl, Seen, Session, session_of, session_text, Setup, Some, StandsFor}
+use Rattle.sim_session.proofs.TextCommon.{start_events, State, state_at, state_of, StepList, told_of, ℕ, ◌++◌, ◌<◌, ◌∙◌, ◌∷◌, ◌≡◌, ◌≤◌}
+use Rattle.sim_session.specs.{Endings.down_frames, Endings.end_lines, Endings.pipe_lines, Endings.pipes_of, Endings.up_frames, Laws.apart_lines}
+use Rattle.sim_session.specs.{Laws.ending_lines, Seen.AllLive, Seen.EndingsAreSeen, Seen.pairs_seen}
+use Rattle.sim_wire.specs.Reading.{IsDownFrame, IsUpFrame, down_frame, up_frame}
+use Rattle.{sim_pipes.specs.Pipes.AreFrames, sim_plain_session.proofs.PlayerLemmas.same_turn, sim_session.proofs.Telling.told_same}
 
 pub end_same : (setup : Setup) (life : Life) (phase : plain.Phase) → Lives setup life phase → end_seen setup life ≡ end_of setup phase
 end_same setup Off plain.Off lives = refl
@@ -70,4 +71,25 @@ endings_same setup lives held s live conveys =
     let pipes = pipes_same setup (pipe_in held.ups) (pipe_in held.downs) s
     (λ c low high. frames_are IsUpFrame up_frame (λ bytes m is. is.framed) _ _ (conveys.ups c low high))
     (λ c low high. frames_are IsDownFrame down_frame (λ bytes m is. is.framed) _ _ (conveys.downs c low high)) in
+    cc
+
+-- All that is printed of a session.
+
+-- its beginning, its steps and what it has come to, one behind the other
+pub told_whole : (setup : Setup) (list : StepList) (seen : Seen) (n : ℕ) (old begun made new : List ℕ) → n ≡ setup.players
+    → StandsFor setup seen (session_of setup list)
+    → begun ≡ old ++ lines_of (start_events setup list.clients)
+    → made ≡ begun ++ lines_of (events_after setup (opened setup list.clients) list.steps)
+    → new ≡ made ++ ending_seen setup (life_of seen.lives) seen.held n
+    → new ≡ old ++ session_text setup list
+told_whole setup list seen n old begun made new count stands first second third =
+    let starts : List ℕ = lines_of (start_events setup list.clients) in
+    let steps : List ℕ = lines_of (events_after setup (opened setup list.clients) list.steps) in
+    let ending : List ℕ = ending_lines setup (session_of setup list) in
+    let seen_is : ending_seen setup (life_of seen.lives) seen.held n ≡ ending =
+    ap (ending_seen setup (life_of seen.lives) seen.held) count ∙ endings_same setup (life_of seen.lives) seen.held (session_of setup list) stands.lives
+    stands.held in
+    let lines = flat_map-append event_line (start_events setup list.clients) (events_after setup (opened setup list.clients) list.steps) in
+    let one : (old ++ starts) ++ steps ≡ old ++ (starts ++ steps) = append_assoc old starts steps in
+    let two : (old ++ (starts ++ steps)) ++ ending ≡ old ++ ((starts ++ steps) ++ ending) = append_assoc old (starts ++ steps) ending in
     cc

@@ -1,18 +1,18 @@
 -- An event of a session shows what the steps up to its own led to, and each step has the events that are of it.
-use Rattle.sim_base.specs.{Limits.IsFrom, Turn.Turn, declared.command.PlayerCommand.PlayerCommand}
-use Rattle.{sim_lists.specs.StepLists.IsStepList, sim_plain_session.proofs.Enabling.steps_have_events, sim_plain_session.proofs.GoingOn.session_goes_on}
-use Rattle.sim_plain_session.{proofs.Shown.carries_either, proofs.Shown.events_are_shown, proofs.Shown.starts_are_shown, specs.Clients.begun}
-use Rattle.sim_plain_session.specs.{Clients.digest_of, Clients.Joining, Clients.Off, Clients.On, Laws.Carries, Laws.IsAt, Laws.IsShown, Pasts.kept_turns}
-use Rattle.sim_session.proofs.TextCommon.{[], ◌++◌, ◌∙◌, ◌∷◌, ◌≡◌, ◌≤◌, after, All, ap, append-nil, append_assoc, arith, client_of, cond-true, digest, end_of}
-use Rattle.sim_session.proofs.TextCommon.{Event, events_after, holds_session, inl, is_active, is_client, IsStep, le-leb, List, lt-ltb, min, opened, Phase, refl}
-use Rattle.sim_session.proofs.TextCommon.{Session, session, session_of, Setup, start_events, Step, StepList, stepped, subst, suc, sym, true, turns_in, zero, ℕ}
-use Rattle.sim_session.specs.Laws.{EndsShowPasts, EventsShowPasts, IsStepAt, PlaysAreTold, ShowsPast, StandsAt, StartsShowPasts, StepsAreTold, StepsShowPasts}
-use Rattle.sim_session.specs.SessionText.{events_of, session_at, step_events}
-use Rattle.sim_session_laws.proofs.{Basics.all_right, Final.released_are_final, PastFacts.unbent_are_kept, TurnNumberFacts.turns_are_released}
-use Rattle.std.proofs.{Common.◌⊎◌, Common.inr, lemmas.Bool.and_from, lemmas.List.Elements.All-head}
 use Rattle.sim_base.specs.declared.step.Event.TheVariants as event
 use Rattle.sim_base.specs.declared.step.Step.TheVariants as step
 use Rattle.sim_session.specs.declared.ending.End.TheVariants as ends
+use Rattle.sim_plain_session.proofs.Enabling.{carries_either, events_are_shown, starts_are_shown, steps_have_events}
+use Rattle.sim_plain_session.specs.{Clients.Joining, Clients.Off, Clients.On, Clients.begun, Clients.digest_of, Pasts.kept_turns, Sessions.Carries}
+use Rattle.sim_session.proofs.TextCommon.{All, append-nil, append_assoc, client_of, cond-true, events_after, holds_session, is_active, session_of, start_events}
+use Rattle.sim_session.proofs.TextCommon.{[], ap, arith, Event, inl, min, Phase, refl, Setup, Step, subst, suc, sym, true, zero, ℕ, ◌++◌, ◌∙◌, ◌∷◌, ◌≡◌, ◌≤◌}
+use Rattle.sim_session.proofs.TextCommon.{after, digest, end_of, is_client, IsStep, le-leb, List, lt-ltb, opened, Session, session, StepList, stepped, turns_in}
+use Rattle.sim_session.specs.Laws.{EndsShowPasts, events_of, EventsShowPasts, IsStepAt, PlaysAreTold, session_at, ShowsPast, StandsAt, StartsShowPasts}
+use Rattle.{sim_base.specs.Limits.IsFrom, sim_base.specs.Turn.Turn, sim_session.specs.Laws.StepsAreTold, std.proofs.Common.inr, std.proofs.Common.◌⊎◌}
+use Rattle.{sim_base.specs.declared.command.PlayerCommand.PlayerCommand, sim_session.specs.Laws.step_events, sim_session_laws.proofs.Fitting.released_are_final}
+use Rattle.{sim_lists.specs.StepLists.IsStepList, sim_plain_session.specs.Sessions.IsAt, sim_session.specs.Laws.StepsShowPasts, std.proofs.lemmas.Bool.and_from}
+use Rattle.{sim_plain_session.proofs.GoingOn.session_goes_on, sim_plain_session.specs.Sessions.IsShown, sim_session_laws.proofs.Fitting.turns_are_released}
+use Rattle.{sim_session_laws.proofs.Basics.all_right, sim_session_laws.proofs.Fitting.unbent_are_kept, std.proofs.lemmas.List.Elements.All-head}
 
 -- ---- the commands of released turns stay
 

@@ -1,12 +1,63 @@
 -- What stands for a session goes on standing for it through a step of one client.
-use Rattle.sim_plain_session.specs.Clients.{bends, hears, joins, orders, plays}
-use Rattle.sim_session.proofs.{Common.Steps, Common.subst, Common.sym, Common.Up, Common.◌∙◌, Seating.put_elsewhere, Seating.put_there, Seating.was_there}
-use Rattle.sim_session.proofs.Common.{IsSetup, leaves, Life, life_of, Lives, Makes, no_state_is_ever_refused, Off, pasts_are_always_valid, Phase, put_other}
-use Rattle.sim_session.proofs.Common.{client_of_player, cond-true, Down, Event, events, events_by, falls, HasValidStates, Held, inl, inr, is_client, IsNumber}
-use Rattle.sim_session.proofs.Common.{rises, Seen, Session, session, session_goes_on, Setup, StandBeside, StandsFor, StandsForSome, Step, stepped, stepped_by}
-use Rattle.sim_session.proofs.Common.{◌≡◌, ℕ, ◌-◌, ◌<◌, ◌≤◌, true, ◌≢◌, ◌⊎◌, List, [], ◌∷◌, map, length, get_or, set, refl, ap, arith, cases_eq, client_of}
+pub use Rattle.sim_board.proofs.Counting.{built_same}
 use Rattle.sim_base.specs.declared.step.Step.TheVariants as step
 use Rattle.sim_plain_session.specs.Clients as plain
+use Rattle.sim_plain_session.specs.Clients.{bends, hears, joins, orders, plays}
+use Rattle.sim_session.proofs.Common.{IsNumber, IsSetup, leaves, length, length-append, length-map, length-set, Life, life_of, List, Lives, Makes, map}
+use Rattle.sim_session.proofs.Common.{[], add-one, All, All-drop, All-set, ap, append_assoc, AreBuilt, AreBuiltOnceAtMost, arith, cases_eq, cases_lt, ChangeAt}
+use Rattle.sim_session.proofs.Common.{client_of, client_of_player, cond-true, Down, drop, drop-map, Event, events, events_by, falls, get_or, get_or-append_seam}
+use Rattle.sim_session.proofs.Common.{get_or-map, get_or-set_other, get_or-set_same, get_or_append_left, HasValidStates, HaveKinds, Held, inl, inr, is_client}
+use Rattle.sim_session.proofs.Common.{map-append, map-set, no_state_is_ever_refused, Off, pasts_are_always_valid, Phase, put_other, refl, rises, Seen, Session}
+use Rattle.sim_session.proofs.Common.{session, session_goes_on, set, Setup, StandBeside, StandsFor, StandsForSome, StartsOnly, Step, stepped, stepped_by, Steps}
+use Rattle.sim_session.proofs.Common.{subst, suc, sym, Systems, true, Up, zero, ℕ, ◌++◌, ◌+◌, ◌-◌, ◌<◌, ◌∙◌, ◌∷◌, ◌≡◌, ◌≢◌, ◌≤◌, ◌⊎◌}
+
+-- One place of a list is written: what becomes of the lists of what stands in it.
+
+pub put_there : {X Y : Type 0} (f : X → Y) (xs : List X) (i : ℕ) (y : X) (d : Y) → i < length xs → get_or (map f (set xs i y)) i d ≡ f y
+put_there f xs i y d within = ap (λ l. get_or l i d) (map-set f xs i y) ∙ get_or-set_same (map f xs) i (f y) d (omega (arith, within, length-map xs f))
+
+pub put_elsewhere : {X Y : Type 0} (f : X → Y) (xs : List X) (i : ℕ) (y : X) (j : ℕ) (d : Y) → j ≢ i → get_or (map f (set xs i y)) j d ≡ get_or (map f xs) j d
+put_elsewhere f xs i y j d apart = ap (λ l. get_or l j d) (map-set f xs i y) ∙ get_or-set_other (map f xs) i j (f y) d apart
+
+pub was_there : {X Y : Type 0} (f : X → Y) (xs : List X) (i : ℕ) (x : X) (d : Y) → i < length xs → x ≡ get_or xs i x → get_or (map f xs) i d ≡ f x
+was_there f xs i x d within is = get_or-map f xs i x d within ∙ ap f (sym is)
+
+-- the systems in one place have changed
+pub changed : {X : Type 0} (Changed : Systems → Systems → Type 0) (f : X → Systems) (xs : List X) (i : ℕ) (x y : X) → i < length xs → x ≡ get_or xs i x
+    → Changed (f x) (f y)
+    → ChangeAt Changed i (map f xs) (map f (set xs i y))
+changed Changed f xs i x y within is change = record {
+  count = length-map (set xs i y) f ∙ length-set xs i y ∙ sym (length-map xs f);
+  there = λ d low. subst (λ (s : Systems). Changed s (get_or (map f (set xs i y)) i d)) (sym (was_there f xs i x d within is))
+      (subst (Changed (f x)) (sym (put_there f xs i y d within)) change);
+  others = λ j d apart. put_elsewhere f xs i y j d apart;
+}
+
+-- each is in its place
+pub kinds_put : {X : Type 0} (f : X → Systems) (xs : List X) (i : ℕ) (y : X) → HaveKinds (f y) → All HaveKinds (map f xs) → All HaveKinds (map f (set xs i y))
+kinds_put f xs i y kinds all = subst (All HaveKinds) (sym (map-set f xs i y)) (All-set HaveKinds (map f xs) i (f y) kinds all)
+
+-- what holds of the systems of all holds of those in one place
+pub holds_there : {X : Type 0} (P : Systems → Type 0) (f : X → Systems) (xs : List X) (i : ℕ) (x : X) → i < length xs → x ≡ get_or xs i x → All P (map f xs)
+    → P (f x)
+holds_there P f xs i x within is all = subst P (was_there f xs i x (f x) within is) (all i (f x) (omega (arith, within, length-map xs f)))
+
+-- and of those behind the first
+pub holds_behind : {X : Type 0} (P : Systems → Type 0) (f : X → Systems) (xs ys : List X) → ys ≡ drop 1 xs → All P (map f xs) → All P (map f ys)
+holds_behind P f xs ys is all = subst (λ l. All P (map f l)) (sym is) (subst (All P) (drop-map f 1 xs) (All-drop P 1 (map f xs) all))
+
+-- and of those in front of others
+pub holds_in_front : {X : Type 0} (P : X → Type 0) (xs ys zs : List X) → xs ++ ys ≡ zs → All P zs → All P xs
+holds_in_front P xs ys zs is all = λ k d within. subst P (get_or_append_left xs ys d k within)
+    (subst (All P) (sym is) all k d (omega (arith, within, length-append xs ys)))
+
+-- and of those in the last place
+pub holds_last : {X : Type 0} (P : Systems → Type 0) (f : X → Systems) (xs left : List X) (x : X) → xs ≡ left ++ x ∷ [] → All P (map f xs) → P (f x)
+holds_last P f xs left x is all = subst P (get_or-append_seam (map f left) (f x) [] (f x))
+    (here (length (map f left)) (f x) (omega (arith, length-append (map f left) (f x ∷ []))))
+  where
+    here : All P (map f left ++ f x ∷ [])
+    here = subst (All P) (ap (map f) is ∙ map-append f left (x ∷ [])) all
 
 -- ---- a step of one client leaves all others as they are
 
@@ -110,3 +161,96 @@ module _ (setup : Setup) (limits : IsSetup setup) (x : Step) (number : IsNumber 
       (ap (λ k. get_or (map f clients) k Off) (sym place) ∙ was_there f clients i old Off within is)
       (ap (λ k. get_or (map f (set clients i new)) k Off) (sym place) ∙ put_there f clients i new Off within)
       (λ d low apart. put_elsewhere f clients i new (d - 1) Off (λ e. apart (omega (arith, e, place, low, number.0)))) makes
+
+-- Clients begin in the match, one after the other.
+
+pub starts_none : (s : List Systems) → StartsOnly 0 s s
+starts_none s = record { count = refl; there = λ i d none low. absurd (omega (arith, none)); others = λ i d low. refl }
+
+-- more clients might have begun
+pub starts_more : (m n : ℕ) (old new : List Systems) → m ≤ n → StartsOnly m old new → StartsOnly n old new
+starts_more m n old new more starts = record {
+  count = starts.count;
+  there = λ i d under low. by i d low (cases_lt i m);
+  others = λ i d above. starts.others i d (omega (arith, above, more));
+}
+  where
+    by : (i : ℕ) (d : Systems) → i < length old → (i < m) ⊎ (m ≤ i) → AreBuiltOnceAtMost (get_or old i d) (get_or new i d)
+    by i d low (inl under) = starts.there i d under low
+    by i d low (inr above) = subst (λ (s : Systems). AreBuiltOnceAtMost (get_or old i d) s) (sym (starts.others i d above)) (built_same (get_or old i d))
+
+-- one more has
+pub starts_on : (n : ℕ) (old mid new : List Systems) → StartsOnly n old mid → ChangeAt AreBuilt n mid new → StartsOnly (n + 1) old new
+starts_on n old mid new starts change = record {
+  count = change.count ∙ starts.count;
+  there = λ i d under low. by i d low under (cases_lt i n);
+  others = λ i d above. change.others i d (λ e. omega (arith, above, e)) ∙ starts.others i d (omega (arith, above));
+}
+  where
+    at_last : (i : ℕ) (d : Systems) → i ≡ n → i < length old → AreBuiltOnceAtMost (get_or old i d) (get_or new i d)
+    at_last i d is low =
+        let here = subst (λ (k : ℕ). k < length mid → AreBuilt (get_or mid k d) (get_or new k d)) (sym is) (change.there d)
+        (omega (arith, low, starts.count)) in
+        subst (λ (s : Systems). AreBuiltOnceAtMost s (get_or new i d)) (starts.others i d (omega (arith, is))) here.most
+
+    by : (i : ℕ) (d : Systems) → i < length old → i < n + 1 → (i < n) ⊎ (n ≤ i) → AreBuiltOnceAtMost (get_or old i d) (get_or new i d)
+    by i d low under (inl before) =
+        subst (λ (s : Systems). AreBuiltOnceAtMost (get_or old i d) s) (sym (change.others i d (λ e. omega (arith, before, e)))) (starts.there i d before low)
+    by i d low under (inr last) = at_last i d (omega (arith, under, last)) low
+
+-- ---- what the clients are
+
+-- the first so many and one more are at the first state
+pub begun_more : {C : Type 0} (f : C → Life) (xs : List C) (i : ℕ) (new : C) (first : Life) → i < length xs → f new ≡ first
+    → ((d : ℕ) → 0 < d → d ≤ i → life_of (map f xs) d ≡ first)
+    → (d : ℕ) → 0 < d → d ≤ i + 1 → life_of (map f (set xs i new)) d ≡ first
+begun_more f xs i new first within is begun d low high = by (cases_lt i d)
+  where
+    by : (i < d) ⊎ (d ≤ i) → life_of (map f (set xs i new)) d ≡ first
+    by (inl last) =
+        let here : d - 1 ≡ i = omega (arith, last, high) in
+        ap (λ k. get_or (map f (set xs i new)) k Off) here ∙ put_there f xs i new Off within ∙ is
+    by (inr before) = put_elsewhere f xs i new (d - 1) Off (λ e. omega (arith, before, low, e)) ∙ begun d low before
+
+-- and all behind them are as they were
+pub others_more : {C : Type 0} (f : C → Life) (old xs : List C) (i n : ℕ) (new : C) → i < n → ((d : ℕ) → i < d → life_of (map f xs) d ≡ life_of (map f old) d)
+    → (d : ℕ) → n < d → life_of (map f (set xs i new)) d ≡ life_of (map f old) d
+others_more f old xs i n new under others d above = put_elsewhere f xs i new (d - 1) Off (λ e. omega (arith, under, above, e)) ∙
+    others d (omega (arith, under, above))
+
+-- the next is as it was
+pub next_was : {C : Type 0} (f : C → Life) (old xs : List C) (i : ℕ) (x : C) → i < length xs → x ≡ get_or xs i x
+    → ((d : ℕ) → i < d → life_of (map f xs) d ≡ life_of (map f old) d)
+    → life_of (map f old) (i + 1) ≡ f x
+next_was f old xs i x within is others =
+    let here : i + 1 - 1 ≡ i = omega arith in
+    sym (others (i + 1) (omega arith)) ∙ ap (λ k. get_or (map f xs) k Off) here ∙ was_there f xs i x Off within is
+
+-- A rig moves from one list to another, and what stands in both, one behind the other, is as it was.
+
+pub moved : {X Y Z : Type 0} (f : X → Z) (h : Y → Z) (xs : List X) (x : X) (ys : List Y) (y : Y) → f x ≡ h y → map f (xs ++ x ∷ []) ++ map h ys ≡ map f xs ++
+    map h (y ∷ ys)
+moved f h xs x ys y same =
+    ap (λ l. l ++ map h ys) (map-append f xs (x ∷ [])) ∙ append_assoc (map f xs) (f x ∷ []) (map h ys) ∙ ap (λ z. map f xs ++ z ∷ map h ys) same
+
+-- it stood first
+pub moved_first : {X Y Z : Type 0} (f : X → Z) (h : Y → Z) (xs : List X) (x : X) (ys : List Y) (y : Y) → 0 < length ys → y ≡ get_or ys 0 y → f x ≡ h y
+    → map f (xs ++ x ∷ []) ++ map h (drop 1 ys) ≡ map f xs ++ map h ys
+moved_first f h xs x [] y some is same = absurd (omega (arith, some))
+moved_first f h xs x (z ∷ ys) y some is same = moved f h xs x ys z (same ∙ ap h is)
+
+-- one more stands in front of those that stood behind so many
+pub drop_back : {X : Type 0} (n k j : ℕ) (x : X) (xs ys : List X) → k ≡ j + 1 → k ≤ n → ys ≡ x ∷ xs → drop (n - j) ys ≡ drop (n - k) xs
+drop_back n k j x xs ys one few is = ap (λ l. drop (n - j) l) is ∙ ap (λ i. drop i (x ∷ xs)) (more one few)
+  where
+    more : k ≡ j + 1 → k ≤ n → n - j ≡ suc (n - k)
+    more one few = omega (arith, one, few)
+
+-- one more is taken away
+drop_suc : {X : Type 0} (i : ℕ) (xs : List X) → drop 1 (drop i xs) ≡ drop (suc i) xs
+drop_suc zero xs = refl
+drop_suc (suc i) [] = refl
+drop_suc (suc i) (x ∷ xs) = drop_suc i xs
+
+pub drop_next : {X : Type 0} (i : ℕ) (xs : List X) → drop 1 (drop i xs) ≡ drop (i + 1) xs
+drop_next i xs = drop_suc i xs ∙ ap (λ k. drop k xs) (sym (add-one i))

@@ -1,9 +1,10 @@
 -- What each client of a session has come to.
-use Rattle.{sim_base.specs.Turn.turns_in, sim_base.specs.declared.setup.Setup.Setup, sim_session.specs.declared.ending.End.End}
-use Rattle.std.specs.Prelude.{ℕ, zero, suc, List, [], ◌++◌, codes, decimal}
-use Rattle.sim_plain_session.specs.{Clients.digest_of, Clients.Joining, Clients.Off, Clients.On, Clients.Phase, Sessions.Session}
-use Rattle.sim_report.specs.Lines.{turn_line}
 use Rattle.sim_session.specs.declared.ending.End.TheVariants as ends
+use Rattle.sim_plain_session.specs.Clients.{digest_of, Joining, Off, On, Phase}
+use Rattle.std.specs.Prelude.{List, [], codes, decimal, flat_map, length, map, suc, zero, ℕ, ◌++◌}
+use Rattle.{sim_base.specs.Turn.turns_in, sim_base.specs.declared.setup.Setup.Setup, sim_plain_session.specs.Sessions.Session}
+use Rattle.{sim_plain_session.specs.Sessions.downs_of, sim_plain_session.specs.Sessions.ups_of, sim_report.specs.Lines.spaced_number}
+use Rattle.{sim_report.specs.Lines.turn_line, sim_session.specs.declared.ending.End.End, sim_wire.specs.Reading.down_frame, sim_wire.specs.Reading.up_frame}
 
 -- what is told of each of 1 to n, in their order
 abbrev pub told_of : (ℕ → List ℕ) → ℕ → List ℕ
@@ -33,3 +34,29 @@ end_of setup (On seat) = ends.On (turns_in seat.past) (digest_of setup seat)
 -- what each client of the match is in the end
 abbrev pub end_lines : Setup → Session → List ℕ
 end_lines setup s = told_of (λ c. end_line c (end_of setup (s.client c))) setup.players
+
+-- What still lies in the pipes of a session.
+
+-- how long each frame is, the first to be heard first
+abbrev pub lengths_text : List (List ℕ) → List ℕ
+lengths_text frames = flat_map (λ (frame : List ℕ). spaced_number (length frame)) frames
+
+-- a pipe of a client by its word, and the frames in it
+abbrev pub pipe_line : ℕ → List ℕ → List (List ℕ) → List ℕ
+pipe_line c word frames = of_client (codes "pipe") c ++ (word ++ (lengths_text frames ++ codes "\n"))
+
+-- the frames of what a client has said and the server is still to hear
+abbrev pub up_frames : Setup → Session → ℕ → List (List ℕ)
+up_frames setup s c = map up_frame (ups_of setup s c)
+
+-- the frames of what the server has said and the client is still to hear
+abbrev pub down_frames : Setup → Session → ℕ → List (List ℕ)
+down_frames setup s c = map down_frame (downs_of setup s c)
+
+-- both pipes of a client
+abbrev pub pipes_of : Setup → Session → ℕ → List ℕ
+pipes_of setup s c = pipe_line c (codes "up") (up_frames setup s c) ++ pipe_line c (codes "down") (down_frames setup s c)
+
+-- those of each client of the match
+abbrev pub pipe_lines : Setup → Session → List ℕ
+pipe_lines setup s = told_of (pipes_of setup s) setup.players

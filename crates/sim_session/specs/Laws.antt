@@ -1,13 +1,96 @@
 -- What the text of a session shows, whatever its steps are.
-use Rattle.{sim_base.specs.Spelling.digest, sim_plain.specs.Notices.notices, sim_plain_session.specs.Clients.On, sim_plain_session.specs.Clients.Seat}
-use Rattle.{sim_lists.specs.StepLists.IsStepList, sim_lists.specs.declared.step_list.StepList.StepList, sim_session.specs.Endings.end_of}
-use Rattle.std.specs.Prelude.{◌≡◌, ℕ, suc, ◌<◌, ◌≤◌, true, ◌↔◌, List, [], ◌∷◌, ◌++◌}
-use Rattle.sim_base.specs.{Limits.IsSetup, Turn.after, Turn.Turn, Turn.turns_in, declared.setup.Setup.Setup, declared.step.Event.Event, declared.step.Step.Step}
-use Rattle.sim_plain_session.specs.{Enabled.CanPlay, Enabled.IsOfStep, Laws.Carries, Laws.notices_in, Pasts.is_unbent, Pasts.kept_turns, Pasts.rules_of}
-use Rattle.sim_session.specs.{Pairs.clients_apart, SessionText.events_of, SessionText.session_at, SessionText.session_of, SessionText.step_events}
 use Rattle.sim_base.specs.declared.step.Event.TheVariants as event
 use Rattle.sim_base.specs.declared.step.Step.TheVariants as step
 use Rattle.sim_session.specs.declared.ending.End.TheVariants as ends
+use Rattle.sim_base.specs.{Limits.IsSetup, Spelling.digest, Turn.Turn, Turn.after, Turn.turns_in, declared.setup.Setup.Setup, declared.state.State.State}
+use Rattle.sim_plain_session.specs.Clients.{Joining, Off, On, Phase, Seat, state_of}
+use Rattle.sim_plain_session.specs.Sessions.{CanPlay, Carries, events, IsOfStep, notices_in, Session, session, session_events}
+use Rattle.sim_session.specs.{Endings.end_lines, Endings.end_of, Endings.of_client, Endings.pipe_lines, Endings.told_of, Served.kept_lines}
+use Rattle.std.specs.Prelude.{[], Bool, codes, count_by, decimal, false, flat_map, if◌then◌else◌, List, nat_le, nat_lt, None, Option, slice_index_or, Some, suc}
+use Rattle.std.specs.Prelude.{◌++◌, ◌+◌, ◌-◌, ◌<◌, ◌==◌, ◌↔◌, ◌∷◌, ◌≡◌, ◌≤◌}
+use Rattle.{sim_base.specs.declared.step.Event.Event, sim_base.specs.declared.step.Step.Step, sim_client.specs.StageWords.AreCleared}
+use Rattle.{sim_client.specs.StageWords.nowhere, sim_diff.specs.Difference.difference_of, sim_diff.specs.declared.place.Place.Place}
+use Rattle.{sim_lists.specs.StepLists.IsStepList, sim_lists.specs.declared.step_list.StepList.StepList, sim_plain.specs.Server.Server}
+use Rattle.{sim_plain.specs.Server.notices, sim_plain_session.specs.Pasts.is_unbent, sim_plain_session.specs.Pasts.kept_turns}
+use Rattle.{sim_plain_session.specs.Pasts.rules_of, sim_report.specs.Downs.released_line, sim_report.specs.Lines.event_line, sim_report.specs.Places.part_name}
+use Rattle.{sim_system.specs.Meanings.AreFed, sim_system.specs.Meanings.Meaning, sim_system.specs.Meanings.Systems, std.specs.Prelude.true, std.specs.Prelude.ℕ}
+
+-- Which clients of a session have come to different states in one turn.
+
+-- the entity and the part of a place
+abbrev pub place_name : Place → List ℕ
+place_name place = codes "entity " ++ (decimal place.entity ++ (codes " part " ++ (part_name place.part ++ codes "\n")))
+
+-- two clients, and the first place at which their states differ
+abbrev pub apart_line : ℕ → ℕ → Place → List ℕ
+apart_line left right place = of_client (codes "differ") left ++ (decimal right ++ (codes " " ++ place_name place))
+
+-- nothing is told where there is none
+abbrev pub apart_at : ℕ → ℕ → Option Place → List ℕ
+apart_at a b None = []
+apart_at a b (Some place) = apart_line a b place
+
+-- only states of one turn are compared
+abbrev pub states_apart : ℕ → ℕ → State → State → List ℕ
+states_apart a b left right = if left.turn == right.turn then apart_at a b (difference_of left right) else []
+
+-- the state of a client that is on
+abbrev pub state_at : Setup → Phase → Option State
+state_at setup Off = None
+state_at setup Joining = None
+state_at setup (On seat) = Some (state_of setup seat)
+
+-- only clients that are on are compared
+abbrev pub both_apart : ℕ → ℕ → Option State → Option State → List ℕ
+both_apart a b None right = []
+both_apart a b (Some left) None = []
+both_apart a b (Some left) (Some right) = states_apart a b left right
+
+-- each pair is compared once, the lesser client first
+abbrev pub pair_apart : ℕ → ℕ → Option State → Option State → List ℕ
+pair_apart a b left right = if nat_lt a b then both_apart a b left right else []
+
+-- two clients of a session
+abbrev pub clients_apart : Setup → Session → ℕ → ℕ → List ℕ
+clients_apart setup s a b = pair_apart a b (state_at setup (s.client a)) (state_at setup (s.client b))
+
+-- all pairs by their lesser client and then by the other one
+abbrev pub apart_lines : Setup → Session → List ℕ
+apart_lines setup s = told_of (λ a. told_of (clients_apart setup s a) setup.players) setup.players
+
+-- The whole text of a session.
+
+-- the session of a list after some of its steps
+abbrev pub session_at : Setup → StepList → List Step → Session
+session_at setup list before = session setup list.clients before
+
+-- and after all of them
+abbrev pub session_of : Setup → StepList → Session
+session_of setup list = session_at setup list list.steps
+
+-- what is printed of a step that comes after these
+abbrev pub step_events : Setup → StepList → List Step → Step → List Event
+step_events setup list before x = events setup (session_at setup list before) x
+
+-- all that is printed of the start and of the steps, in order
+abbrev pub events_of : Setup → StepList → List Event
+events_of setup list = session_events setup list.clients list.steps
+
+-- a line for each
+abbrev pub lines_of : List Event → List ℕ
+lines_of events = flat_map event_line events
+
+-- what a server has come to: its released turns, and how many commands it keeps of which turn
+abbrev pub server_lines : Setup → Server → List ℕ
+server_lines setup server = released_line server.released ++ kept_lines server.kept setup.turns
+
+-- what a session has come to: its server, the clients that differ, what each client is, and what lies in the pipes
+abbrev pub ending_lines : Setup → Session → List ℕ
+ending_lines setup s = server_lines setup s.server ++ (apart_lines setup s ++ (end_lines setup s ++ pipe_lines setup s))
+
+-- the events of a session, and what it has come to
+abbrev pub session_text : Setup → StepList → List ℕ
+session_text setup list = lines_of (events_of setup list) ++ ending_lines setup (session_of setup list)
 
 -- a step of the list, with the steps before it
 pub record IsStepAt (list : StepList) (before : List Step) (x : Step) : Type 0 where
@@ -98,3 +181,58 @@ UnbentAreTogether =
     (setup : Setup) (list : StepList) (a b : ℕ) (left right : Seat) → IsSetup setup → IsStepList setup.players list
     → (session_of setup list).client a ≡ On left → (session_of setup list).client b ≡ On right → is_unbent left.past ≡ true → is_unbent right.past ≡ true
     → clients_apart setup (session_of setup list) a b ≡ []
+
+-- What the systems of clients stand for when a session has ended, and how often they were built in it.
+
+-- those of a client that is on have the facts of its state, and those of any other none
+abbrev pub StandFor : Setup → Phase → Systems → Type 0
+StandFor setup Off s = AreCleared s
+StandFor setup Joining s = AreCleared s
+StandFor setup (On seat) s = AreFed setup (state_of setup seat) s
+
+-- those of each client, the first of which is client 1
+abbrev pub AllStand : Setup → Session → List Systems → Type 0
+AllStand setup s systems = (c : ℕ) → 0 < c → c ≤ setup.players → StandFor setup (s.client c) (slice_index_or systems (c - 1) nowhere)
+
+-- ---- how often they were built
+
+-- an event is a load of this client
+abbrev pub is_load_of : ℕ → Event → Bool
+is_load_of c (event.Start d g) = false
+is_load_of c (event.Order d t) = false
+is_load_of c (event.Play d t g) = false
+is_load_of c (event.Join d) = false
+is_load_of c (event.Load d t g) = d == c
+is_load_of c (event.Refused d code) = false
+is_load_of c (event.Cut d) = false
+is_load_of c (event.Bend d t g) = false
+is_load_of c (event.Notice t d) = false
+
+-- how many loads of a client there are among these events
+abbrev pub loads_in : List Event → ℕ → ℕ
+loads_in events c = count_by (is_load_of c) events
+
+-- one for a client that takes part from the beginning
+abbrev pub begun_by : ℕ → ℕ → ℕ
+begun_by clients c = if nat_le c clients then 1 else 0
+
+-- and one for each of its loads
+abbrev pub builds_of : Setup → StepList → ℕ → ℕ
+builds_of setup list c = begun_by list.clients c + loads_in (events_of setup list) c
+
+-- a system was built at most so often
+pub record IsBuiltAtMost (most : ℕ) (m n : Meaning) : Type 0 where
+  pub low : m.rebuilds ≤ n.rebuilds
+  pub high : n.rebuilds ≤ m.rebuilds + most
+
+-- each of the four was
+pub record AreBuiltAtMost (most : ℕ) (s t : Systems) : Type 0 where
+  pub ground : IsBuiltAtMost most s.ground t.ground
+  pub range : IsBuiltAtMost most s.range t.range
+  pub watch : IsBuiltAtMost most s.watch t.watch
+  pub census : IsBuiltAtMost most s.census t.census
+
+-- those of each client were, by its number
+abbrev pub AllBuiltAtMost : (ℕ → ℕ) → ℕ → List Systems → List Systems → Type 0
+AllBuiltAtMost most players old new =
+    (c : ℕ) → 0 < c → c ≤ players → AreBuiltAtMost (most c) (slice_index_or old (c - 1) nowhere) (slice_index_or new (c - 1) nowhere)

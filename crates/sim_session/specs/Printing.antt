@@ -1,11 +1,11 @@
 -- What is printed of what a client says, and of what it hears.
-use Rattle.std.specs.Prelude.{ℕ, Bool, true, false, ◌&&◌, List, [], ◌∷◌, if◌then◌else◌, Some, None, Option}
-use Rattle.sim_base.specs.{Spelling.digest, declared.setup.Setup.Setup, declared.step.Event.Event}
-use Rattle.sim_client.specs.{LifeLaws.shows, declared.did.Did.Did, declared.did.Did.TheVariants.Done, declared.did.Did.TheVariants.Idle}
-use Rattle.sim_client.specs.Lives.{Joining, Life, Off, On, Said, Told}
 use Rattle.sim_base.specs.declared.step.Event.TheVariants as event
 use Rattle.sim_plain.specs.declared.message.DownOf.TheVariants as down
 use Rattle.sim_plain.specs.declared.message.UpOf.TheVariants as up
+use Rattle.sim_base.specs.{Spelling.digest, declared.setup.Setup.Setup, declared.step.Event.Event}
+use Rattle.sim_client.specs.Lives.{Joining, Life, Off, On, Said, shows, Told}
+use Rattle.sim_client.specs.declared.did.Did.{Did, TheVariants.Done, TheVariants.Idle}
+use Rattle.std.specs.Prelude.{[], Bool, false, if◌then◌else◌, List, None, Option, Some, true, ℕ, ◌&&◌, ◌∷◌}
 
 -- a wish to join or an order, each by the first message that it sends
 abbrev pub said_events : ℕ → List Said → List Event

@@ -1,12 +1,12 @@
 -- What is printed of a session in the end, as it is seen of clients that have states and of pipes of frames.
-use Rattle.{sim_base.specs.Spelling.digest, sim_base.specs.declared.setup.Setup.Setup, sim_server.specs.Standing.server_of}
-use Rattle.{sim_pipes.specs.Exchanges.Conveys, sim_pipes.specs.Exchanges.Held, sim_pipes.specs.Pipes.pipe_in, sim_system.specs.declared.system.System.Ghosts}
-use Rattle.{sim_plain_session.specs.Sessions.Session, sim_session.specs.Pairs.pair_apart, sim_session.specs.Pipes.pipe_line}
-use Rattle.std.specs.Prelude.{◌≡◌, ℕ, ◌-◌, ◌<◌, ◌≤◌, List, ◌++◌, map, length, slice_index_or, codes, All}
-use Rattle.sim_client.specs.{ClientWords.state_of, LifeLaws.Lives, Lives.Joining, Lives.Life, Lives.Off, Lives.On, declared.client.Client.Client}
-use Rattle.sim_session.specs.{Endings.end_line, Endings.told_of, SessionText.ending_lines, SessionText.server_lines, declared.ending.End.End}
 use Rattle.sim_client.specs.ClientWords as client
 use Rattle.sim_session.specs.declared.ending.End.TheVariants as ends
+use Rattle.sim_client.specs.{Lives.Life, Lives.Lives, Lives.Off, Lives.On, declared.client.Client.Client}
+use Rattle.sim_session.specs.{Endings.end_line, Endings.pipe_line, Endings.told_of, Laws.ending_lines, Laws.pair_apart, Laws.server_lines}
+use Rattle.std.specs.Prelude.{All, List, codes, length, map, slice_index_or, ℕ, ◌++◌, ◌-◌, ◌<◌, ◌≡◌, ◌≤◌}
+use Rattle.{sim_base.specs.Spelling.digest, sim_base.specs.declared.setup.Setup.Setup, sim_client.specs.ClientWords.state_of, sim_client.specs.Lives.Joining}
+use Rattle.{sim_pipes.specs.Pipes.Conveys, sim_pipes.specs.Pipes.Held, sim_pipes.specs.Pipes.pipe_in, sim_plain_session.specs.Sessions.Session}
+use Rattle.{sim_server.specs.Standing.server_of, sim_session.specs.declared.ending.End.End, sim_system.specs.declared.system.System.Ghosts}
 
 -- what a client is that has a state
 abbrev pub end_seen : Setup → Life → End

@@ -1,9 +1,8 @@
 -- What is printed of a schedule: all that the server says at its arrivals, and what the server has come to.
-use Rattle.std.specs.Prelude.{ℕ, zero, suc, List, [], ◌∷◌, ◌++◌, map, length, if◌then◌else◌, ◌==◌, flat_map}
-use Rattle.sim_base.specs.declared.command.PlayerCommand.{PlayerCommand}
-use Rattle.sim_lists.specs.{Arrivals.plain_arrival, declared.schedule.Schedule.Schedule}
-use Rattle.sim_plain.specs.{Messages.Arrival, Posts.served, Server.Server, Server.server_after, declared.rules.Rules.Rules}
-use Rattle.sim_report.specs.Downs.{kept_line, post_line, released_line}
+use Rattle.sim_plain.specs.{Messages.Arrival, Server.Server, Server.served, Server.server_after, declared.rules.Rules.Rules}
+use Rattle.std.specs.Prelude.{List, [], flat_map, length, map, suc, zero, ℕ, ◌++◌, ◌==◌, ◌∷◌}
+use Rattle.{sim_base.specs.declared.command.PlayerCommand.PlayerCommand, sim_lists.specs.declared.schedule.Schedule.Schedule, sim_report.specs.Downs.kept_line}
+use Rattle.{sim_lists.specs.Arrivals.plain_arrival, sim_report.specs.Downs.post_line, sim_report.specs.Downs.released_line, std.specs.Prelude.if◌then◌else◌}
 
 -- arrivals behind those that came before, the newest first
 abbrev pub history : {B : Type 0} → List (Arrival B) → List (Arrival B) → List (Arrival B)

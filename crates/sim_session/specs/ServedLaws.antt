@@ -1,6 +1,6 @@
 -- What the notices among all that is said are.
-use Rattle.std.specs.Prelude.{◌≡◌, ℕ, List, [], ◌∷◌, ◌++◌, filter_map}
-use Rattle.sim_plain.specs.{Messages.Arrival, Messages.sender, Notices.notice_in, Notices.notices, Posts.posts, Server.server_after, declared.rules.Rules.Rules}
+use Rattle.sim_plain.specs.{Messages.Arrival, Messages.sender, Server.notice_in, Server.notices, Server.posts, Server.server_after, declared.rules.Rules.Rules}
+use Rattle.std.specs.Prelude.{[], filter_map, List, ℕ, ◌++◌, ◌∷◌, ◌≡◌}
 
 -- the notices that each client from whom something arrives is told at that arrival; the newest arrival is the first in the list
 abbrev pub told_to_senders : Rules → ℕ → List (Arrival (List ℕ)) → List (ℕ × ℕ)

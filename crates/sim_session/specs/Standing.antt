@@ -1,12 +1,16 @@
 -- For which session of the definition a session in memory stands.
-use Rattle.{sim_base.specs.Validity.IsValid, sim_client.specs.LifeLaws.Lives, sim_pipes.specs.Exchanges.Conveys, sim_pipes.specs.Exchanges.Held}
-use Rattle.std.specs.Prelude.{◌≡◌, ℕ, ◌-◌, ◌<◌, ◌≤◌, List, [], ◌∷◌, ◌++◌, slice_index_or}
-use Rattle.sim_base.specs.{Limits.HasFewIds, Turn.after, Turn.Past, declared.setup.Setup.Setup, declared.step.Event.Event, declared.step.Step.Step}
-use Rattle.sim_client.specs.{Lives.Life, Lives.Off, Lives.Said, declared.did.Did.Did, declared.did.Did.TheVariants.Done, declared.did.Did.TheVariants.Idle}
-use Rattle.sim_plain_session.specs.{Clients.Down, Clients.On, Clients.Seat, Printed.events, Printed.events_by}
-use Rattle.sim_plain_session.specs.Sessions.{client_of, Session, session, stepped, stepped_by}
 use Rattle.sim_base.specs.declared.step.Step.TheVariants as step
 use Rattle.sim_plain.specs.declared.message.DownOf.TheVariants as down
+use Rattle.sim_base.specs.declared.step.Event.TheVariants as event
+use Rattle.sim_base.specs.{Limits.HasFewIds, Limits.IsValid, Turn.Past, Turn.after, declared.setup.Setup.Setup, declared.step.Event.Event}
+use Rattle.sim_client.specs.declared.{client.Client.Client, did.Did.TheVariants.Done, did.Did.TheVariants.Idle}
+use Rattle.sim_client.specs.{ClientWords.life, ClientWords.setup_in, Lives.Life, Lives.Lives, Lives.Off, Lives.Said, StageWords.IsSoundAt, declared.did.Did.Did}
+use Rattle.sim_plain_session.specs.Sessions.{client_of, events, events_by, Session, session, stepped, stepped_by}
+use Rattle.sim_system.specs.Meanings.{AreBuiltOnceAtMost, HaveKinds, HaveSameRebuilds, Meaning, Systems}
+use Rattle.std.specs.Prelude.{IfOk, IsOk, List, OnOk, Result, [], false, length, slice_index_or, true, ℕ, ◌++◌, ◌-◌, ◌<◌, ◌||◌, ◌∷◌, ◌≡◌, ◌≢◌, ◌≤◌}
+use Rattle.{sim_base.specs.declared.step.Step.Step, sim_board.specs.Boards.AreKept, sim_client.specs.StageWords.systems_on}
+use Rattle.{sim_pipes.specs.Pipes.Conveys, sim_pipes.specs.Pipes.Held, sim_plain_session.specs.Clients.Down, sim_plain_session.specs.Clients.On}
+use Rattle.{sim_plain_session.specs.Clients.Seat, sim_server.specs.Standing.IsClient, sim_system.specs.declared.system.System.Ghosts, std.specs.Prelude.Bool}
 
 -- a number of a client
 abbrev pub IsNumber : Setup → ℕ → Type 0
@@ -79,3 +83,103 @@ pub record Steps (setup : Setup) (old : Seen) (x : Step) (new : Seen) (answered 
       → StandsFor setup new (session setup active (steps ++ x ∷ []))
   pub printed : (active : ℕ) (steps : List Step) → active ≤ setup.players → StandsFor setup old (session setup active steps)
       → answered ≡ events setup (session setup active steps) x
+
+-- How often the systems of clients are built.
+
+-- a state was loaded
+abbrev pub is_load : Event → Bool
+is_load (event.Start c g) = false
+is_load (event.Order c t) = false
+is_load (event.Play c t g) = false
+is_load (event.Join c) = false
+is_load (event.Load c t g) = true
+is_load (event.Refused c code) = false
+is_load (event.Cut c) = false
+is_load (event.Bend c t g) = false
+is_load (event.Notice t c) = false
+
+-- one of these events says so
+abbrev pub has_load : List Event → Bool
+has_load [] = false
+has_load (e ∷ events) = is_load e || has_load events
+
+-- systems were built once at most where a state was loaded, and else not at all
+abbrev pub AreBuiltIf : Bool → Systems → Systems → Type 0
+AreBuiltIf true old new = AreBuiltOnceAtMost old new
+AreBuiltIf false old new = HaveSameRebuilds old new
+
+-- the systems are in their places, and were built once at most
+pub record AreBuilt (old new : Systems) : Type 0 where
+  pub kinds : HaveKinds new
+  pub most : AreBuiltOnceAtMost old new
+
+-- the systems in one place may have changed so, and all others are as they were
+pub record ChangeAt (Changed : Systems → Systems → Type 0) (i : ℕ) (old new : List Systems) : Type 0 where
+  pub count : length new ≡ length old
+  pub there : (d : Systems) → i < length old → Changed (slice_index_or old i d) (slice_index_or new i d)
+  pub others : (j : ℕ) (d : Systems) → j ≢ i → slice_index_or new j d ≡ slice_index_or old j d
+
+-- the systems of the first n clients may have been built, and all others are as they were
+pub record StartsOnly (n : ℕ) (old new : List Systems) : Type 0 where
+  pub count : length new ≡ length old
+  pub there : (i : ℕ) (d : Systems) → i < n → i < length old → AreBuiltOnceAtMost (slice_index_or old i d) (slice_index_or new i d)
+  pub others : (i : ℕ) (d : Systems) → n ≤ i → slice_index_or new i d ≡ slice_index_or old i d
+
+-- What becomes of a client that makes a step beside the server and the pipes: the facts of each call by name. A clause passes
+-- ⟦<dyn System as System>⟧ for `sys`.
+
+-- ---- before
+
+-- a client may act that may be called, and whose number the server knows
+pub record MayActBy {Y X : Type 0} {G : Y → Type 0} {F : X → Type 0} {M : _} (meaning : (i : X) → F i → Meaning) (c : ℕ) (own : Client Y X G F M)
+    (held : Held) : Type 0 where
+  pub sound : IsSoundAt own.setup.now own.number own.stage own.board meaning
+  pub client : IsClient held.server c
+
+-- it may hear what is sent to it, where the two stand beside a session with valid states
+pub record MayHearBy {Y X : Type 0} {G : Y → Type 0} {F : X → Type 0} {M : _} (meaning : (i : X) → F i → Meaning) (c : ℕ) (own : Client Y X G F M)
+    (held : Held) : Type 0 where
+  pub acts : MayActBy meaning c own held
+  pub some : (s : Session) × HasValidStates (setup_in own) c s × StandBeside (setup_in own) c (life own) held s
+
+-- ---- behind
+
+-- A client that makes this step, or nothing, which takes no memory. Where there was memory it is sound again. However that ends, none of its
+-- systems was built since, and its match and the rules of the server are the same.
+pub record ActsBy {Y X : Type 0} {G : Y → Type 0} {F : X → Type 0} {M : _} {E : Type 0} (meaning : (i : X) → F i → Meaning) (x : Step) (Nothing : Type 0)
+    (result : Result (List Event) E) (old : Client Y X G F M) (before : Held) (new : Client Y X G F M) (behind : Held) : Type 0 where
+  pub made : IfOk result (λ events. Makes (setup_in old) x (life old) before (life new) behind events)
+  pub idle : Nothing → IsOk result
+  pub sound : OnOk result (IsSoundAt new.setup.now new.number new.stage new.board meaning)
+  pub kept : AreKept (systems_on old.board meaning) (systems_on new.board meaning)
+  pub setup : setup_in new ≡ setup_in old
+  pub rules : behind.server.rules ≡ before.server.rules
+
+-- A client that makes a step in which it may load a state. Its systems are built once at most where it does, also where memory was refused, and
+-- else not at all. All else is as above.
+pub record LoadsBy {Y X : Type 0} {G : Y → Type 0} {F : X → Type 0} {M : _} {E : Type 0} (meaning : (i : X) → F i → Meaning) (x : Step)
+    (result : Result (List Event) E) (old : Client Y X G F M) (before : Held) (new : Client Y X G F M) (behind : Held) : Type 0 where
+  pub made : IfOk result (λ events. Makes (setup_in old) x (life old) before (life new) behind events)
+  pub sound : OnOk result (IsSoundAt new.setup.now new.number new.stage new.board meaning)
+  pub built : IfOk result (λ events. AreBuiltIf (has_load events) (systems_on old.board meaning) (systems_on new.board meaning))
+  pub most : AreBuilt (systems_on old.board meaning) (systems_on new.board meaning)
+  pub loads : (s : Session) → StandBeside (setup_in old) (client_of x) (life old) before s
+      → AreBuiltIf (has_load (events_by (setup_in old) s x)) (systems_on old.board meaning) (systems_on new.board meaning)
+  pub setup : setup_in new ≡ setup_in old
+  pub rules : behind.server.rules ≡ before.server.rules
+
+-- ---- the same, as a clause has them
+
+abbrev pub MayAct : {Y X : Type 0} {G : Y → Type 0} {F : X → Type 0} {M : _} → ((i : X) → Ghosts (F i)) → ℕ → Client Y X G F M → Held → Type 0
+MayAct sys c own held = MayActBy (λ i v. (sys i).meaning v) c own held
+
+abbrev pub MayHear : {Y X : Type 0} {G : Y → Type 0} {F : X → Type 0} {M : _} → ((i : X) → Ghosts (F i)) → ℕ → Client Y X G F M → Held → Type 0
+MayHear sys c own held = MayHearBy (λ i v. (sys i).meaning v) c own held
+
+abbrev pub Acts : {Y X : Type 0} {G : Y → Type 0} {F : X → Type 0} {M : _} {E : Type 0} → ((i : X) → Ghosts (F i)) → Step → Type 0 → Result (List Event) E
+    → Client Y X G F M → Held → Client Y X G F M → Held → Type 0
+Acts sys x Nothing result old before new behind = ActsBy (λ i v. (sys i).meaning v) x Nothing result old before new behind
+
+abbrev pub Loads : {Y X : Type 0} {G : Y → Type 0} {F : X → Type 0} {M : _} {E : Type 0} → ((i : X) → Ghosts (F i)) → Step → Result (List Event) E
+    → Client Y X G F M → Held → Client Y X G F M → Held → Type 0
+Loads sys x result old before new behind = LoadsBy (λ i v. (sys i).meaning v) x result old before new behind

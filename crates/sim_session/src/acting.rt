@@ -1,16 +1,16 @@
 //! The kinds of step, each by one client beside the server and the pipes.
 
-ghost use Rattle.{sim_base.specs.Limits.HasFewIds, sim_base.specs.declared.setup.Setup.Setup as AnySetup, sim_client.specs.ClientWords.HasDigest};
-ghost use Rattle.sim_client.specs.{ClientWords.IsSound, ClientWords.life, ClientWords.setup_in, LifeLaws.shows, Lives.bends, Lives.joins, Lives.orders};
-ghost use Rattle.{sim_client.specs.Lives.plays, sim_pipes.specs.Exchanges.Conveys, sim_plain.specs.Messages.carry_up};
-ghost use Rattle.sim_plain_session.specs.{Bytes.spelled, Clients.Acted, Printed.events_by, Sessions.acts, Sessions.client_of as client_in, Sessions.Session};
-ghost use Rattle.{sim_plain_session.specs.Sessions.stepped_by, sim_server.specs.Standing.IsClient};
-ghost use Rattle.sim_session.specs.{Acting.Acts, Acting.Loads, Acting.MayAct, Acting.MayHear, Printing.has_happened, Printing.is_off as is_off_of};
-ghost use Rattle.sim_session.specs.{Printing.played_events, Printing.said_events as events_said, Standing.IsSmallStep, Standing.said_by, Standing.StandBeside};
-ghost use Rattle.sim_wire.specs.Fits.{IsSmallUp};
-ghost use Rattle.std.specs.Prelude.{[], ◌≡◌, All, false, IfOk, IsOk, map, None, OnOk, true};
 ghost use Rattle.sim_base.specs.declared.step.Event.TheVariants as event;
 ghost use Rattle.sim_base.specs.declared.step.Step.TheVariants as step;
+ghost use Rattle.std.specs.Prelude.{[], All, false, IfOk, IsOk, map, None, OnOk, true, ◌≡◌};
+ghost use Rattle.sim_client.specs.ClientWords.{HasDigest, IsSound, life, setup_in};
+ghost use Rattle.sim_client.specs.Lives.{joins, orders, plays, shows};
+ghost use Rattle.sim_plain_session.specs.Sessions.{acts, client_of as client_in, events_by, Session, spelled, stepped_by};
+ghost use Rattle.sim_session.specs.Printing.{has_happened, is_off as is_off_of, played_events, said_events as events_said};
+ghost use Rattle.sim_session.specs.Standing.{Acts, IsSmallStep, Loads, MayAct, MayHear, StandBeside, said_by};
+ghost use Rattle.sim_wire.specs.Reading.{IsSmallUp};
+ghost use Rattle.{sim_base.specs.Limits.HasFewIds, sim_base.specs.declared.setup.Setup.Setup as AnySetup, sim_client.specs.Lives.bends};
+ghost use Rattle.{sim_pipes.specs.Pipes.Conveys, sim_plain.specs.Messages.carry_up, sim_plain_session.specs.Clients.Acted, sim_server.specs.Standing.IsClient};
 
 use crate::hearing::down;
 use crate::printing::{one, said_events, shown};

@@ -1,9 +1,9 @@
 //! The lines of clients whose states differ. The bytes that each has there are not told, as they are where two stored
 //! states are compared.
 
-ghost use Rattle.{sim_base.specs.Rows.id_of, sim_bytes.specs.Rows.HasShortWay, sim_report.specs.Appending.Appends, sim_session.specs.Pairs.apart_line};
-ghost use Rattle.{sim_session.specs.Pairs.states_apart, std.specs.List.Sorted.IsStrictlyIncreasing};
-ghost use Rattle.std.specs.Prelude.{◌++◌, ◌≡◌, All, map, OnOk, string_bytes};
+ghost use Rattle.std.specs.{List.Sorted.IsStrictlyIncreasing, Prelude.All, Prelude.OnOk, Prelude.map, Prelude.string_bytes, Prelude.◌++◌, Prelude.◌≡◌};
+ghost use Rattle.sim_session.specs.Laws.{states_apart};
+ghost use Rattle.{sim_base.specs.Rows.id_of, sim_bytes.specs.Rows.HasShortWay, sim_report.specs.Appending.Appends, sim_session.specs.Laws.apart_line};
 
 use sim_base::{OutOfMemory, State};
 use sim_diff::{Place, difference};

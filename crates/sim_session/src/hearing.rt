@@ -1,11 +1,11 @@
 //! A client hears the first message in the pipe to it.
 
-ghost use Rattle.sim_client.specs.ClientWords.{IsSound, life, setup_in};
-ghost use Rattle.{sim_client.specs.LifeLaws.shows, sim_pipes.specs.Pipes.pipe_in, sim_session.specs.Acting.Loads, sim_session.specs.Acting.MayHear};
-ghost use Rattle.sim_session.specs.Printing.{has_happened, heard_events, is_state as is_state_in, refusal_in};
-ghost use Rattle.std.specs.Prelude.{[], ◌≡◌, IfOk, IsOk};
 ghost use Rattle.sim_base.specs.declared.step.Event.TheVariants as event;
 ghost use Rattle.sim_base.specs.declared.step.Step.TheVariants as step;
+ghost use Rattle.std.specs.Prelude.{[], IfOk, IsOk, ◌≡◌};
+ghost use Rattle.sim_client.specs.{ClientWords.IsSound, ClientWords.life, ClientWords.setup_in, Lives.shows};
+ghost use Rattle.sim_session.specs.Printing.{has_happened, heard_events, is_state as is_state_in, refusal_in};
+ghost use Rattle.{sim_pipes.specs.Pipes.pipe_in, sim_session.specs.Standing.Loads, sim_session.specs.Standing.MayHear};
 
 use crate::acting::ups_of;
 use crate::printing::{one, shown};

@@ -1,12 +1,11 @@
 //! A session that is begun, goes through its steps and is told.
 
-ghost use Rattle.sim_client.specs.ClientWords.{digest_of, IsSound, life, setup_in as client_setup_in};
-ghost use Rattle.sim_lists.specs.StepLists.{IsStepList};
-ghost use Rattle.sim_plain_session.specs.{Printed.events_after, Printed.start_events, Sessions.opened};
-ghost use Rattle.sim_session.specs.Going.{ComeBackBuilt, HasOpened, MayBegin, MayPass, Passes};
-ghost use Rattle.sim_session.specs.{Rigs.AllStand, Rigs.builds_of, Rigs.loads_in, SessionText.lines_of, SessionText.session_of};
-ghost use Rattle.sim_session.specs.{SessionText.session_text as text_of_session, SessionWords.rigs_of, SessionWords.setup_in, Starts.start_lines};
-ghost use Rattle.std.specs.Prelude.{◌++◌, ◌≡◌, IfOk, OnOk, string_bytes};
+ghost use Rattle.std.specs.Prelude.{IfOk, OnOk, string_bytes, ◌++◌, ◌≡◌};
+ghost use Rattle.sim_client.specs.ClientWords.{IsSound, digest_of, life, setup_in as client_setup_in};
+ghost use Rattle.sim_session.specs.Going.{ComeBackBuilt, HasOpened, MayBegin, MayPass, Passes, rigs_of, setup_in};
+ghost use Rattle.sim_session.specs.Laws.{AllStand, builds_of, lines_of, loads_in, session_of, session_text as text_of_session};
+ghost use Rattle.{sim_lists.specs.StepLists.IsStepList, sim_plain_session.specs.Sessions.events_after, sim_plain_session.specs.Sessions.opened};
+ghost use Rattle.{sim_plain_session.specs.Sessions.start_events, sim_session.specs.Starts.start_lines};
 
 use crate::closing::push_ending;
 use crate::session::Session;

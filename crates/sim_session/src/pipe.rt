@@ -1,7 +1,7 @@
 //! The line of a pipe: how long the frames are that lie in it.
 
-ghost use Rattle.{sim_report.specs.Appending.Appends, sim_session.specs.Pipes.lengths_text, sim_session.specs.Pipes.pipe_line};
-ghost use Rattle.std.specs.Prelude.{◌++◌, ◌≡◌, OnOk, string_bytes};
+ghost use Rattle.std.specs.Prelude.{OnOk, string_bytes, ◌++◌, ◌≡◌};
+ghost use Rattle.{sim_report.specs.Appending.Appends, sim_session.specs.Endings.lengths_text, sim_session.specs.Endings.pipe_line};
 
 use sim_base::OutOfMemory;
 use sim_wire::Bytes;

@@ -1,11 +1,11 @@
 //! A session that is gone through without a word of it, for the commands that were kept of its released turns.
 
-ghost use Rattle.{sim_client.specs.StageWords.AreCleared, sim_lists.specs.StepLists.IsStepList, sim_plain_session.specs.Printed.events_after};
-ghost use Rattle.{sim_plain_session.specs.Sessions.opened, sim_server.specs.Standing.server_of};
-ghost use Rattle.sim_session.specs.{Going.ComeBackBuilt, Going.Keeps, Going.MayBegin, Going.MayPass, Going.Passes, Recording.released_turns as turns_released};
-ghost use Rattle.sim_session.specs.{Rigs.AllBuiltAtMost, Rigs.builds_of, Rigs.loads_in, SessionText.session_of, SessionWords.rigs_of, SessionWords.setup_in};
-ghost use Rattle.{sim_session.specs.SessionWords.systems_in, sim_system.specs.Meanings.HaveKinds, std.specs.List.range_with_len};
-ghost use Rattle.std.specs.Prelude.{◌≡◌, ◌≤◌, All, drop, IfOk, length, map, take, vec_capacity};
+ghost use Rattle.std.specs.List.{range_with_len};
+ghost use Rattle.std.specs.Prelude.{All, drop, IfOk, length, map, take, vec_capacity, ◌≡◌, ◌≤◌};
+ghost use Rattle.sim_session.specs.Going.{ComeBackBuilt, Keeps, MayBegin, MayPass, Passes, rigs_of, setup_in, systems_in};
+ghost use Rattle.sim_session.specs.{Laws.AllBuiltAtMost, Laws.builds_of, Laws.loads_in, Laws.session_of, Recording.released_turns as turns_released};
+ghost use Rattle.{sim_client.specs.StageWords.AreCleared, sim_lists.specs.StepLists.IsStepList, sim_plain_session.specs.Sessions.events_after};
+ghost use Rattle.{sim_plain_session.specs.Sessions.opened, sim_server.specs.Standing.server_of, sim_system.specs.Meanings.HaveKinds};
 
 use crate::session::Session;
 use sim_base::{Items, OutOfMemory, PlayerCommand, Setup};

@@ -1,10 +1,9 @@
 //! Clients made of rigs, and rigs taken back from clients. The rigs that have no client stay in the list in which all came,
 //! and so does its room.
 
+ghost use Rattle.std.specs.Prelude.{[], All, drop, length, replicate, vec_capacity, ◌++◌, ◌+◌, ◌<◌, ◌∷◌, ◌≡◌, ◌≤◌};
+ghost use Rattle.sim_session.specs.Going.{AreFresh, AreMembers, lives_of, rigs_of, Seats, systems_of};
 ghost use Rattle.{sim_base.specs.Limits.IsSetup, sim_client.specs.Lives.Off, sim_system.specs.Meanings.HaveKinds};
-ghost use Rattle.std.specs.Prelude.{◌≡◌, ◌+◌, ◌<◌, ◌≤◌, [], ◌∷◌, ◌++◌, length, drop, replicate, vec_capacity, All};
-ghost use Rattle.sim_session.specs.{Going.AreFresh, Going.Seats};
-ghost use Rattle.sim_session.specs.SessionWords.{AreMembers, lives_of, rigs_of, systems_of};
 
 use sim_base::Setup;
 use sim_client::Client;

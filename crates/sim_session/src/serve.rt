@@ -1,10 +1,10 @@
 //! The run of a schedule: each arrival is heard and its answer is printed before the next one is heard.
 
-ghost use Rattle.{sim_plain.specs.Messages.Arrival as PlainArrival, sim_report.specs.Downs.post_line};
-ghost use Rattle.std.specs.Prelude.{◌≡◌, ℕ, List, ◌++◌, map, length, IfOk, OnOk, string_bytes, All, flat_map};
-ghost use Rattle.sim_lists.specs.{Arrivals.plain_arrival, Schedules.IsFromClient, Schedules.IsSchedule};
+ghost use Rattle.std.specs.Prelude.{All, flat_map, IfOk, length, List, map, OnOk, string_bytes, ℕ, ◌++◌, ◌≡◌};
+ghost use Rattle.sim_lists.specs.{Arrivals.plain_arrival, StepLists.IsFromClient, StepLists.IsSchedule};
+ghost use Rattle.sim_server.specs.Standing.{IsClient, StandsFor, server_of as plain_server};
 ghost use Rattle.sim_session.specs.Served.{history, kept_lines, kept_of, said_lines, served_text as text_of_schedule};
-ghost use Rattle.sim_server.specs.Standing.{Answers, IsClient, server_of as plain_server, StandsFor};
+ghost use Rattle.{sim_plain.specs.Messages.Arrival as PlainArrival, sim_report.specs.Downs.post_line, sim_server.specs.Standing.Answers};
 
 use sim_base::OutOfMemory;
 use sim_lists::{Arrival, Arrivals, Said, Schedule};

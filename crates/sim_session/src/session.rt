@@ -1,12 +1,12 @@
 //! A session. After want of memory it may only be finished.
 
+ghost use Rattle.std.specs.Prelude.{All, drop, IfErr, IfOk, if◌then◌else◌, length, OnOk, vec_capacity, ℕ, ◌++◌, ◌<◌, ◌≡◌, ◌≤◌};
 ghost use Rattle.sim_client.specs.{ClientWords.IsSound, ClientWords.life, ClientWords.setup_in as client_setup_in, Lives.Off, Lives.starts};
+ghost use Rattle.sim_session.specs.Going.{AreMembers, AreOfClients, clients_in, GoesOn, HasOpened, IsOn, IsSession, lives_of, MayBegin, MayFinish, rigs_of};
+ghost use Rattle.sim_session.specs.Going.{room_in, seen_in, setup_in, spare_in, systems_in, systems_of, Takes};
+ghost use Rattle.sim_session.specs.Standing.{IsNumber, IsSmallStep, StandsFor, StartsOnly, Steps, life_of};
+ghost use Rattle.sim_system.specs.Meanings.{HaveKinds};
 ghost use Rattle.{sim_pipes.specs.Pipes.pipe_in, sim_plain_session.specs.Sessions.client_of as client_in, sim_plain_session.specs.Sessions.opened};
-ghost use Rattle.sim_session.specs.{Building.StartsOnly, Going.GoesOn, Going.HasOpened, Going.IsOn, Going.MayBegin, Going.Takes, SessionWords.AreMembers};
-ghost use Rattle.sim_session.specs.SessionWords.{AreOfClients, clients_in, IsSession, lives_of, MayFinish, rigs_of, room_in, seen_in, setup_in, spare_in};
-ghost use Rattle.sim_session.specs.{SessionWords.systems_in, SessionWords.systems_of, Standing.IsNumber, Standing.IsSmallStep, Standing.life_of};
-ghost use Rattle.{sim_session.specs.Standing.StandsFor, sim_session.specs.Standing.Steps, sim_system.specs.Meanings.HaveKinds};
-ghost use Rattle.std.specs.Prelude.{if◌then◌else◌, ◌++◌, ◌<◌, ◌≡◌, ◌≤◌, All, drop, IfErr, IfOk, length, OnOk, vec_capacity, ℕ};
 
 use crate::acting::{act, client_of};
 use crate::rigs::{seat, unseat};

@@ -1,8 +1,8 @@
 //! The lines of what a session tells: its events, and what its server has come to.
 
-ghost use Rattle.{sim_report.specs.Downs.released_line, sim_server.specs.Standing.server_of as plain_server, sim_session.specs.SessionText.lines_of};
-ghost use Rattle.std.specs.Prelude.{◌≡◌, ◌++◌, OnOk, string_bytes};
+ghost use Rattle.std.specs.Prelude.{OnOk, string_bytes, ◌++◌, ◌≡◌};
 ghost use Rattle.sim_session.specs.Served.{kept_lines};
+ghost use Rattle.{sim_report.specs.Downs.released_line, sim_server.specs.Standing.server_of as plain_server, sim_session.specs.Laws.lines_of};
 
 use crate::serve::push_all_kept;
 use sim_base::{Events, OutOfMemory};

@@ -1,13 +1,17 @@
 -- A client is cut.
-use Rattle.sim_session_laws.proofs.{ClientSteps.fits_as, Common.with_status, Common.◌∙◌, Invariant.Fits, Invariant.Holds, Invariant.Plays, Invariant.Sound}
-use Rattle.sim_session_laws.proofs.{ServerLemmas.told_raised, UpSteps.donor_in, UpSteps.ins_high, UpSteps.sound_raised, UpSteps.sound_status}
-use Rattle.sim_session_laws.proofs.Common.{ap, append-nil, append_assoc, asked, cases_eq, cond-false, cond-true, cut, cut_posts, donor, Down, eq-eqb, In, inl}
-use Rattle.sim_session_laws.proofs.Common.{inr, is_client, is_in, Joining, leaves, ne_eqb, Off, On, Out, Past, Phase, put_other, put_same, raised, release}
-use Rattle.sim_session_laws.proofs.Common.{reseated, rules_of, seat, Server, Session, Setup, Status, subst, sym, true≢false, Up, up_to, Waiting, waits_for}
-use Rattle.sim_session_laws.proofs.Common.{◌≡◌, ℕ, ◌≤◌, Bool, true, false, ◌⊎◌, List, [], ◌∷◌, ◌++◌, map, nat_lt, Some, None, filter, Option, refl, and_right}
-use Rattle.sim_session_laws.proofs.ServerLemmas.{fits_goes, fits_told, Goes, goes_one, IsQuiet, quiet_asks, quiet_none, release_is, Told, told_quiet}
 use Rattle.sim_plain.specs.declared.message.DownOf.TheVariants as down
-use Rattle.sim_plain.proofs.Statuses.{in_waits_not, Stay, waits_is}
+use Rattle.sim_base.specs.declared.step.Step.TheVariants as step
+use Rattle.sim_plain.proofs.Calm.{in_waits_not, Stay, waits_is}
+use Rattle.sim_session_laws.proofs.Basics.{Fits, Holds, Plays, Sound}
+use Rattle.sim_session_laws.proofs.Common.{[], after_steps, All-nil, and_from, and_parts, and_right, ap, append-nil, append_assoc, arith, asked, begun, Bool}
+use Rattle.sim_session_laws.proofs.Common.{cases_eq, client_of, cond-false, cond-true, cut, cut_posts, donor, Down, eq-eqb, false, filter, if◌then◌else◌, In}
+use Rattle.sim_session_laws.proofs.Common.{inl, inr, is_active, is_client, is_in, IsItemOf, IsOrderOf, Joining, le-leb, leaves, leb-true, List, map, min}
+use Rattle.sim_session_laws.proofs.Common.{nat_le, nat_lt, ne_eqb, None, Off, On, opened, opening, Option, Out, Past, Phase, put_other, put_same, raised, refl}
+use Rattle.sim_session_laws.proofs.Common.{release, reseated, rules_of, seat, Server, Session, session, Setup, Some, Status, Step, stepped, stepped_by, subst}
+use Rattle.sim_session_laws.proofs.Common.{sym, true, true≢false, Up, up_to, Waiting, waits_for, with_status, ℕ, ◌++◌, ◌∙◌, ◌∷◌, ◌≡◌, ◌≤◌, ◌⊎◌}
+use Rattle.sim_session_laws.proofs.ServerLemmas.{IsQuiet, quiet_asks, quiet_none, release_is, Told, told_quiet, told_raised}
+use Rattle.sim_session_laws.proofs.ServerLemmas.{fits_as, fits_goes, fits_told, Goes, goes_one, holds_bend, holds_down, holds_join, holds_order, holds_play}
+use Rattle.sim_session_laws.proofs.UpSteps.{donor_in, holds_up, ins_high, sound_raised, sound_status}
 
 -- ---- the statuses after the cut
 
@@ -236,3 +240,68 @@ holds_leaves setup s c client h = by (s.client c)
     by Off = h
     by Joining = holds_cut setup s c client h
     by (On o) = holds_cut setup s c client h
+
+-- Every session that a list of steps reaches.
+
+pub holds_opened : (setup : Setup) (active : ℕ) → active ≤ setup.players → Holds setup (opened setup active)
+holds_opened setup active few =
+    record {
+      server = record {
+        released = omega arith;
+        players = λ t. All-nil (IsOrderOf setup);
+        inside = λ t h. refl;
+        clients =
+            λ c none. cond-false _ _ _ (outside c none (is_active active c) refl);
+      };
+      each = λ c. by (is_active active c);
+    }
+  where
+    r : ℕ
+    r = min setup.turns setup.delay
+
+    outside : (c : ℕ) → is_client setup c ≡ false → (b : Bool) → is_active active c ≡ b → is_active active c ≡ false
+    outside c none false e = e
+    outside c none true e =
+        let both = and_parts (nat_lt 0 c) (nat_le c active) e in
+        let le : c ≤ active = leb-true _ _ both.1 in
+        absurd (true≢false (sym (and_from _ _ both.0 (le-leb c setup.players (omega arith))) ∙ none))
+
+    by : (b : Bool) → Fits setup (opening (rules_of setup) active) (if b then In r else Out) (if b then On (begun r r []) else Off) [] []
+    by false = record { no_ups = refl; no_downs = refl }
+    by true =
+        record {
+          low = omega arith;
+          high = omega arith;
+          past = record { players = All-nil (IsItemOf setup); turn = omega arith; unbent = λ e. refl };
+          behind = omega arith;
+          known_release = omega arith;
+          said = refl;
+          pipe = tt;
+          players = λ t. All-nil (IsOrderOf setup);
+          commands = λ t above. refl;
+        }
+
+holds_stepped_by : (setup : Setup) (s : Session) (x : Step) → is_client setup (client_of x) ≡ true → Holds setup s
+    → Holds setup (stepped_by setup s x)
+holds_stepped_by setup s (step.Order c x) client h = holds_order setup s c x h
+holds_stepped_by setup s (step.Up c) client h = holds_up setup s c client h
+holds_stepped_by setup s (step.Down c) client h = holds_down setup s c h
+holds_stepped_by setup s (step.Play c) client h = holds_play setup s c h
+holds_stepped_by setup s (step.Join c) client h = holds_join setup s c h
+holds_stepped_by setup s (step.Cut c) client h = holds_leaves setup s c client h
+holds_stepped_by setup s (step.Bend c e g) client h = holds_bend setup s c e g h
+
+pub holds_stepped : (setup : Setup) (s : Session) (x : Step) → Holds setup s → Holds setup (stepped setup s x)
+holds_stepped setup s x h = by (is_client setup (client_of x)) refl
+  where
+    by : (b : Bool) → is_client setup (client_of x) ≡ b → Holds setup (if b then stepped_by setup s x else s)
+    by true e = holds_stepped_by setup s x e h
+    by false e = h
+
+pub holds_after : (setup : Setup) (s : Session) (xs : List Step) → Holds setup s → Holds setup (after_steps setup s xs)
+holds_after setup s [] h = h
+holds_after setup s (x ∷ xs) h = holds_after setup (stepped setup s x) xs (holds_stepped setup s x h)
+
+-- what every session keeps
+pub holds_session : (setup : Setup) (active : ℕ) (steps : List Step) → active ≤ setup.players → Holds setup (session setup active steps)
+holds_session setup active steps few = holds_after setup (opened setup active) steps (holds_opened setup active few)

@@ -1,11 +1,11 @@
 -- What a notice shows.
-use Rattle.sim_plain.specs.Notices.{report_of}
-use Rattle.sim_session_laws.proofs.Common.{All-append, All-cons, All-head, All-nil, All-tail, ap, Arrival, bytes_eq-Decides, Carries, Cut, differs, eqb-true}
-use Rattle.sim_session_laws.proofs.Common.{Past, Report, reports, Rules, rules_of, server_after, session, Setup, Step, subst, sym, WasMark, WereApart, ◌∙◌}
-use Rattle.sim_session_laws.proofs.Common.{first_mark, full_is_digest, Heard, inl, inr, is_accepted, is_full_turn, NoticesShowDifferences, others_are_quick}
-use Rattle.sim_session_laws.proofs.Common.{◌≡◌, ℕ, Bool, true, false, List, [], ◌∷◌, map, if◌then◌else◌, ◌==◌, Some, None, bytes_eq, All, filter, Option, refl}
-use Rattle.sim_session_laws.proofs.Reporting.{Arrives, marks_of_session, one_of_all}
 use Rattle.sim_plain.specs.declared.message.UpOf.TheVariants as up
+use Rattle.sim_plain.specs.Server.{report_of}
+use Rattle.sim_session_laws.proofs.Common.{Cut, differs, eqb-true, false, filter, first_mark, full_is_digest, Heard, if◌then◌else◌, inl, inr, is_accepted}
+use Rattle.sim_session_laws.proofs.Common.{[], All, All-append, All-cons, All-head, All-nil, All-tail, ap, Arrival, Bool, bytes_eq, bytes_eq-Decides, Carries}
+use Rattle.sim_session_laws.proofs.Common.{is_full_turn, List, map, None, NoticesShowDifferences, Option, others_are_quick, Past, refl, Report, reports, Rules}
+use Rattle.sim_session_laws.proofs.Common.{rules_of, server_after, session, Setup, Some, Step, subst, sym, true, WasMark, WereApart, ℕ, ◌==◌, ◌∙◌, ◌∷◌, ◌≡◌}
+use Rattle.sim_session_laws.proofs.Reporting.{Arrives, marks_of_session, one_of_all}
 
 -- what a report in a list of reports says
 abbrev IsReported : (ℕ → ℕ → List ℕ → Type 0) → Report → Type 0

@@ -1,15 +1,14 @@
 -- What keeps a client that plays.
-use Rattle.sim_session_laws.proofs.Basics.{all_players_append, all_right, client_is, commands_at-append, good_downs_append, good_downs_grows, good_past_grows}
-use Rattle.sim_session_laws.proofs.Basics.{good_ups_grows, Grows, grows_same}
-use Rattle.sim_session_laws.proofs.Common.{All-cons, All-head, AllPlayers, and_from, and_parts, ap, append-nil, append_assoc, arith, Bend, bends, bent_seat}
-use Rattle.sim_session_laws.proofs.Common.{Joining, learns, lt-ltb, ltb-true, may_bend, may_order, may_play, may_tell_done, ne_eqb, Off, On, ordered, orders}
-use Rattle.sim_session_laws.proofs.Common.{Past, Phase, played, PlayerCommand, plays, put, put_other, report_of, row_of, Seat, Setup, shows_bend}
-use Rattle.sim_session_laws.proofs.Common.{cases_eq, Command, commands_at, cond-false, cond-true, Down, eq-eqb, hears, idle, inl, inr, IsItemOf, IsOrderOf}
-use Rattle.sim_session_laws.proofs.Common.{put_same, state_of, subst, sym, told, told_alone, told_with_done, true≢false, Turn, turns_in, Up, ◌∙◌}
-use Rattle.sim_session_laws.proofs.Common.{◌≡◌, ℕ, suc, ◌+◌, ◌<◌, ◌≤◌, min, max, Bool, true, false, ◌⊎◌, List, [], ◌∷◌, ◌++◌, ℤ, if◌then◌else◌, refl, Acted}
-use Rattle.sim_session_laws.proofs.Invariant.{GoodDowns, GoodPast, GoodUps, Plays}
 use Rattle.sim_plain.specs.declared.message.DownOf.TheVariants as down
 use Rattle.sim_plain.specs.declared.message.UpOf.TheVariants as up
+use Rattle.sim_session_laws.proofs.Basics.{all_players_append, all_right, client_is, commands_at-append, good_downs_append, good_downs_grows, good_past_grows}
+use Rattle.sim_session_laws.proofs.Basics.{good_ups_grows, GoodDowns, GoodPast, GoodUps, Grows, grows_same, Plays}
+use Rattle.sim_session_laws.proofs.Common.{[], Acted, All-cons, All-head, AllPlayers, and_from, and_parts, ap, append-nil, append_assoc, arith, Bend, bends}
+use Rattle.sim_session_laws.proofs.Common.{bent_seat, Bool, cases_eq, Command, commands_at, cond-false, cond-true, Down, eq-eqb, false, hears, idle}
+use Rattle.sim_session_laws.proofs.Common.{if◌then◌else◌, inl, inr, IsItemOf, IsOrderOf, Joining, learns, List, lt-ltb, ltb-true, max, may_bend, may_order}
+use Rattle.sim_session_laws.proofs.Common.{may_play, may_tell_done, min, ne_eqb, Off, On, ordered, orders, Past, Phase, played, PlayerCommand, plays, put}
+use Rattle.sim_session_laws.proofs.Common.{put_other, put_same, refl, report_of, row_of, Seat, Setup, shows_bend, state_of, subst, suc, sym, told, told_alone}
+use Rattle.sim_session_laws.proofs.Common.{told_with_done, true, true≢false, Turn, turns_in, Up, ℕ, ℤ, ◌++◌, ◌+◌, ◌<◌, ◌∙◌, ◌∷◌, ◌≡◌, ◌≤◌, ◌⊎◌}
 
 -- ---- what the server does, as a client sees it
 

@@ -1,18 +1,17 @@
 -- The server hears what a client says.
-use Rattle.sim_session_laws.proofs.{Basics.all_players_append, Basics.player_is, ClientSteps.fits_as, LoadLemmas.plays_begun}
-use Rattle.sim_session_laws.proofs.Common.{Some, None, count_by, Option, refl, AllPlayers, and_from, and_parts, ap, append-nil, arith, arrives, asked, begun}
-use Rattle.sim_session_laws.proofs.Common.{cases_eq, Command, command_fault, cond-false, cond-true, crowd_fault, done_fault, donor, Down, entry_done, eq-eqb}
-use Rattle.sim_session_laws.proofs.Common.{Heard, heard, In, inl, inr, is_by, is_client, is_in, is_out, IsOrderOf, Joining, keeps, kept_above, le-leb}
-use Rattle.sim_session_laws.proofs.Common.{leb-true, loading, ne_eqb, nobody, Off, On, Out, Past, Phase, PlayerCommand, put, put_other, put_same, raised}
-use Rattle.sim_session_laws.proofs.Common.{refusal, release, report_fault, reported, rises, rules_of, Seat, seat, Server, Session, Setup, Status, subst, sym}
-use Rattle.sim_session_laws.proofs.Common.{taken, takes_state, to_one, true≢false, turn_fault, turns_in, unless, Up, Waiting, with_status, ◌∙◌}
-use Rattle.sim_session_laws.proofs.Common.{◌≡◌, ℕ, suc, ◌+◌, ◌-◌, ◌≤◌, Bool, true, false, ◌&&◌, ◌⊎◌, List, [], ◌∷◌, ◌++◌, if◌then◌else◌, nat_lt, nat_le, ◌==◌}
-use Rattle.sim_session_laws.proofs.Invariant.{Fits, GoodPast, GoodUps, Holds, Plays, Sound}
-use Rattle.sim_session_laws.proofs.ServerLemmas.{fits_goes, Goes, goes_command, goes_join_again, goes_nothing, goes_one, goes_report, goes_state, IsQuiet}
-use Rattle.sim_session_laws.proofs.ServerLemmas.{quiet_asks, quiet_none, raised_bound, told_quiet, told_raised}
 use Rattle.sim_plain.specs.declared.message.DownOf.TheVariants as down
 use Rattle.sim_plain.specs.declared.message.UpOf.TheVariants as up
-use Rattle.sim_plain.proofs.Statuses.{least_in_is, Stay, stay_put, waits_is}
+use Rattle.sim_plain.proofs.Calm.{least_in_is, Stay, stay_put, waits_is}
+use Rattle.sim_session_laws.proofs.Basics.{all_players_append, Fits, GoodPast, GoodUps, Holds, player_is, Plays, plays_begun, Sound}
+use Rattle.sim_session_laws.proofs.Common.{Heard, heard, if◌then◌else◌, In, inl, inr, is_by, is_client, is_in, is_out, IsOrderOf, Joining, keeps, kept_above}
+use Rattle.sim_session_laws.proofs.Common.{PlayerCommand, put, put_other, put_same, raised, refl, refusal, release, report_fault, reported, rises, rules_of}
+use Rattle.sim_session_laws.proofs.Common.{Seat, seat, Server, Session, Setup, Some, Status, subst, suc, sym, taken, takes_state, to_one, true, true≢false}
+use Rattle.sim_session_laws.proofs.Common.{[], AllPlayers, and_from, and_parts, ap, append-nil, arith, arrives, asked, begun, Bool, cases_eq, Command}
+use Rattle.sim_session_laws.proofs.Common.{command_fault, cond-false, cond-true, count_by, crowd_fault, done_fault, donor, Down, entry_done, eq-eqb, false}
+use Rattle.sim_session_laws.proofs.Common.{le-leb, leb-true, List, loading, nat_le, nat_lt, ne_eqb, nobody, None, Off, On, Option, Out, Past, Phase}
+use Rattle.sim_session_laws.proofs.Common.{turn_fault, turns_in, unless, Up, Waiting, with_status, ℕ, ◌&&◌, ◌++◌, ◌+◌, ◌-◌, ◌==◌, ◌∙◌, ◌∷◌, ◌≡◌, ◌≤◌, ◌⊎◌}
+use Rattle.sim_session_laws.proofs.ServerLemmas.{IsQuiet, quiet_asks, quiet_none, raised_bound, told_quiet, told_raised}
+use Rattle.sim_session_laws.proofs.ServerLemmas.{fits_as, fits_goes, Goes, goes_command, goes_join_again, goes_nothing, goes_one, goes_report, goes_state}
 
 -- ---- what stays sound
 

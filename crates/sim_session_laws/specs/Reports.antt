@@ -1,10 +1,10 @@
 -- What the reports of a session say, and so what a notice shows.
-use Rattle.{sim_plain.specs.Messages.Heard, sim_plain.specs.Notices.notices, sim_plain_session.specs.Laws.Carries}
-use Rattle.std.specs.Prelude.{◌≡◌, ℕ, ◌≤◌, Bool, true, false, List, [], ◌++◌, All}
-use Rattle.sim_base.specs.{Spelling.is_full_turn, Spelling.quick, Turn.turns_in, declared.setup.Setup.Setup, declared.step.Step.Step}
-use Rattle.sim_plain_session.specs.{Clients.digest_of, Clients.mark_of, Clients.On, Clients.Seat, Clients.state_of, Pasts.rules_of, Sessions.session}
 use Rattle.sim_base.specs.declared.step.Step.TheVariants as step
 use Rattle.sim_plain.specs.declared.message.UpOf.TheVariants as up
+use Rattle.sim_base.specs.{Spelling.is_full_turn, Spelling.quick, Turn.turns_in, declared.setup.Setup.Setup, declared.step.Step.Step}
+use Rattle.sim_plain_session.specs.{Clients.On, Clients.Seat, Clients.digest_of, Clients.mark_of, Clients.state_of, Pasts.rules_of, Sessions.Carries}
+use Rattle.std.specs.Prelude.{Bool, List, [], false, true, ℕ, ◌++◌, ◌≡◌, ◌≤◌}
+use Rattle.{sim_plain.specs.Messages.Heard, sim_plain.specs.Server.notices, sim_plain_session.specs.Sessions.session, std.specs.Prelude.All}
 
 -- after some of the steps a client was on, in this seat
 pub record WasOn (setup : Setup) (active : ℕ) (steps : List Step) (c : ℕ) (seat : Seat) : Type 0 where

@@ -1,7 +1,7 @@
 //! The commands and the pasts of a session.
 
-ghost use Rattle.sim_session_laws.specs.{Always.Always, Commands.NoneBehindRelease, Commands.UnbentAgree, Commands.UnbentAreKept};
-ghost use Rattle.sim_session_laws.specs.Commands.{BehindStateAreKept, ComingAreAboveRelease, KeptAreOfPlayers, KeptAreTurns, KnownAndComingAreKept};
+ghost use Rattle.sim_session_laws.specs.Standing.{Always, BehindStateAreKept, ComingAreAboveRelease, KeptAreOfPlayers, KeptAreTurns, KnownAndComingAreKept};
+ghost use Rattle.sim_session_laws.specs.Standing.{NoneBehindRelease, UnbentAgree, UnbentAreKept};
 
 /// What a client knows of a turn that it has not played, and what is on its way to it, is what the server keeps of it,
 /// each command once and in order; and no command comes behind the release of its turn.

@@ -1,7 +1,7 @@
 //! Valid pasts, and who stands where.
 
-ghost use Rattle.sim_session_laws.specs.{Always.Always, Standing.PastsAreValid, Standing.StatesHaveTurns, Standing.StrangersAreOut, Standing.WaitingHasDonor};
-ghost use Rattle.sim_session_laws.specs.Standing.{HeardBytesSpellAState, InHasState, KnownAreOfPlayers, NoStateIsRefused, OffIsOut, OnIsIn, OutHasWish};
+ghost use Rattle.sim_session_laws.specs.Standing.{Always, HeardBytesSpellAState, InHasState, KnownAreOfPlayers, NoStateIsRefused, OffIsOut, OnIsIn, OutHasWish};
+ghost use Rattle.sim_session_laws.specs.Standing.{PastsAreValid, StatesHaveTurns, StrangersAreOut, WaitingHasDonor};
 
 /// The state after every past in a session is valid and at the turn that the past has, and so no state that a client
 /// hears is refused: in bytes, it is the spelling of a valid state. Every command that a client knows is by a player of the match.

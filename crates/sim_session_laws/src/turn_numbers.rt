@@ -1,8 +1,7 @@
 //! The turn numbers of a session.
 
-ghost use Rattle.sim_session_laws.specs.Always.{Always};
-ghost use Rattle.sim_session_laws.specs.TurnNumbers.{CarriedAreReleased, DonesAreCounted, DonesAreNear, DonesAreTurns, DonesGoOn, ReleasedAreFinal};
-ghost use Rattle.sim_session_laws.specs.TurnNumbers.{ReleasedAreTurns, ReleasedOnlyRise, ReleasesAreReleased, StampsAreTurns, StateHasDone, TurnsAreReleased};
+ghost use Rattle.sim_session_laws.specs.Standing.{Always, CarriedAreReleased, DonesAreCounted, DonesAreNear, DonesAreTurns, DonesGoOn, ReleasedAreFinal};
+ghost use Rattle.sim_session_laws.specs.Standing.{ReleasedAreTurns, ReleasedOnlyRise, ReleasesAreReleased, StampsAreTurns, StateHasDone, TurnsAreReleased};
 
 /// The dones of a client go on by one from what the server has of it, and each will be accepted.
 pub fn dones_are_accepted()

@@ -1,9 +1,10 @@
 -- Worked examples of templates, computed from the definitions.
-use Rattle.{sim_merge.specs.Resolution.members, sim_merge.specs.Values.text_by, sim_tree.specs.Reading.source_in, std.proofs.Common.pos, std.specs.Fmt.digits}
 use Rattle.serde_json.specs.Data.{member, no_members, null, object, string}
-use Rattle.sim_setup.{proofs.Common.template_at, proofs.Common.template_in, proofs.Common.templates_from, specs.Refusals.refusal, specs.Sources.sources_from}
-use Rattle.sim_setup.proofs.Common.{◌≡◌, ℕ, List, [], ◌∷◌, Some, None, Ok, Err, codes, Option, refl, after, Node, Origin, roots_of, source_of, Template}
-use Rattle.sim_tree.specs.{Trees.child, Trees.no_children, Trees.node, declared.tree.TreeMark.TreeMark, declared.tree.TreeMark.TheVariants.Mul}
+use Rattle.sim_setup.proofs.Common.{[], after, codes, Err, List, Node, None, Ok, Option, Origin, refl, roots_of, Some, source_of, Template, template_at}
+use Rattle.sim_setup.proofs.Common.{template_in, templates_from, ℕ, ◌∷◌, ◌≡◌}
+use Rattle.sim_tree.specs.{Nodes.source_in, Trees.child, Trees.no_children, Trees.node, declared.tree.TreeMark.TheVariants.Mul, declared.tree.TreeMark.TreeMark}
+use Rattle.std.{proofs.Common.pos, specs.Fmt.digits}
+use Rattle.{sim_merge.specs.Overlay.text_by, sim_merge.specs.Resolution.members, sim_setup.specs.Refusals.refusal, sim_setup.specs.Refusals.sources_from}
 
 -- a part with one child
 abbrev part : List ℕ → List ℕ → Option TreeMark → List ℕ → Node

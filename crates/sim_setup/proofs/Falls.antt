@@ -1,6 +1,6 @@
 -- The first command whose turn falls, by its place.
-use Rattle.sim_setup.{proofs.Common.subst, proofs.Common.Timed, specs.Laws.falls, specs.Laws.IsLeastFall, specs.Laws.turns_of}
-use Rattle.sim_setup.proofs.Common.{◌≡◌, ℕ, zero, suc, ◌+◌, ◌<◌, Bool, true, false, List, [], ◌∷◌, length, if◌then◌else◌, nat_lt, Some, refl, arith, falls_at}
+use Rattle.sim_setup.proofs.Common.{[], arith, Bool, falls_at, false, if◌then◌else◌, length, List, nat_lt, refl, Some, subst, suc, Timed, true, zero, ℕ, ◌+◌}
+use Rattle.sim_setup.{proofs.Common.◌<◌, proofs.Common.◌∷◌, proofs.Common.◌≡◌, specs.Setups.IsLeastFall, specs.Setups.falls, specs.Setups.turns_of}
 
 -- the place counted from the command that is held against `before`
 record Place (before n : ℕ) (turns : List ℕ) (i : ℕ) : Type 0 where

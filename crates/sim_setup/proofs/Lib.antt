@@ -1,12 +1,8 @@
 pub mod Common
-pub mod Tally
-pub mod Refused
-pub mod Falls
-pub mod LandLimits
-pub mod TemplateLimits
-pub mod EntityLimits
-pub mod CommandIds
 pub mod CommandLimits
-pub mod SetupLimits
+pub mod LandLimits
+pub mod Falls
+pub mod TemplateLimits
+pub mod CommandIds
 pub mod SourceLimits
 pub mod Examples

@@ -1,14 +1,13 @@
 -- What holds of the templates of a match file.
-use Rattle.std.proofs.Common.{not, ◌||◌, is_some, slice_get, AllPairs, unwrap_or}
-use Rattle.std.proofs.lemmas.{List.map-append, List.Kept.AllPairs-cons, Slice.Eq.bytes_eq-Decides, Bool.not-true}
+use Rattle.sim_setup.proofs.Common.{List, map, name_in, names_in, next_template, Node, numbered, numbered-keeps, Ok, Option, Origin, refl, Result, Some, subst}
+use Rattle.sim_setup.proofs.Common.{[], All, All-cons, and_parts, and_then_some, ap, are_distinct, arith, Bool, bytes_eq, Err, false, if◌then◌else◌, length}
+use Rattle.sim_setup.proofs.Common.{sym, Template, template_at, template_in, true, true≢false, ℕ, ◌&&◌, ◌++◌, ◌∙◌, ◌∷◌, ◌≡◌, ◌≢◌}
+use Rattle.sim_traits.specs.Values.{after, arms_in, attack_part, base_in, has_known_parts, health_in, health_part, motion_part, obstruct_part, part_of}
+use Rattle.sim_traits.specs.Values.{resist_in, resist_part, speed_in, template_of_parts, train_in, train_part, unarmoured}
+use Rattle.sim_traits.specs.declared.fault.TraitFault.{TheVariants.Clash, TheVariants.UnknownPart, TraitFault}
+use Rattle.std.proofs.Common.{AllPairs, is_some, not, slice_get, unwrap_or, ◌||◌}
+use Rattle.std.proofs.lemmas.{Bool.not-true, List.Kept.AllPairs-cons, List.map-append, Slice.Eq.bytes_eq-Decides}
 use Rattle.std.specs.{List.list_any, Result.result_ok}
-use Rattle.sim_setup.proofs.Common.{Result, refl, All-cons, and_then_some, ap, are_distinct, arith, name_in, names_in, next_template, Node, numbered}
-use Rattle.sim_setup.proofs.Common.{and_parts, numbered-keeps, Origin, subst, sym, Template, template_at, template_in, true≢false, ◌∙◌}
-use Rattle.sim_setup.proofs.Common.{◌≡◌, ℕ, Bool, true, false, ◌&&◌, ◌≢◌, List, [], ◌∷◌, ◌++◌, map, length, if◌then◌else◌, Some, Ok, Err, bytes_eq, All, Option}
-use Rattle.sim_traits.specs.Parts.{after, part_of, template_of_parts, unarmoured}
-use Rattle.sim_traits.specs.Table.{attack_part, has_known_parts, health_part, motion_part, obstruct_part, resist_part, train_part}
-use Rattle.sim_traits.specs.Values.{arms_in, base_in, health_in, resist_in, speed_in, train_in}
-use Rattle.sim_traits.specs.declared.fault.TraitFault.{TraitFault, TheVariants.Clash, TheVariants.UnknownPart}
 
 -- ---- a template that is read
 

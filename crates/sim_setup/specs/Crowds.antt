@@ -1,7 +1,7 @@
 -- How many commands each player has in each turn, as a table.
-use Rattle.std.specs.Prelude.{Result}
-use Rattle.std.specs.Prelude.{◌≡◌, ℕ, ◌+◌, ◌*◌, ◌<◌, ◌≤◌, Bool, true, false, List, [], ◌∷◌, ◌++◌, length, nat_lt, slice_index, Some, None, Ok, Err, Option}
-use Rattle.sim_setup.specs.{Commands.crowd, Common.Command, Common.OutOfMemory, Common.Timed}
+use Rattle.sim_setup.specs.{Common.Command, Common.OutOfMemory, Common.Timed, Setups.crowd}
+use Rattle.std.specs.Prelude.{[], Bool, Err, false, length, List, nat_lt, None, Ok, Option, Result, slice_index, Some, true, ℕ, ◌*◌, ◌++◌, ◌+◌, ◌<◌, ◌∷◌, ◌≡◌}
+use Rattle.std.specs.Prelude.{◌≤◌}
 
 -- a table has a count for Gaia and eight players in each turn
 abbrev pub place_of : ℕ → ℕ → ℕ

@@ -1,14 +1,4 @@
 pub mod Common
 pub mod Refusals
-pub mod Shape
-pub mod Sources
-pub mod Players
-pub mod Ground
-pub mod Rules
-pub mod Templates
-pub mod Entities
-pub mod Commands
 pub mod Setups
-pub mod Meets
 pub mod Crowds
-pub mod Laws

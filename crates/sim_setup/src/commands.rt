@@ -1,9 +1,9 @@
 //! Codes 9 and 10 at the key `commands`: commands of turns and players, which `sim_json` reads from their kinds on.
 
-ghost use Rattle.std.specs.Prelude.{◌≡◌, ◌^◌, ◌<◌, ◌≤◌, true, ◌≢◌, List, map, length, IfErr, option_map, option_and_then};
-ghost use Rattle.sim_setup.specs.{Commands.timeds_from as timeds_from_data, Crowds.Covers, Crowds.FindsTimed, Crowds.Tallies};
-ghost use Rattle.sim_setup.specs.{Common.front_two as front_two_of, Common.list_of as list_of_data, Common.Timed, Common.view, Meets.Meets};
-ghost use Rattle.sim_setup.specs.Commands.{falls_at as falls_at_in, in_order as in_order_of, timed_of as timed_of_data, timed_takes};
+ghost use Rattle.std.specs.Prelude.{IfErr, length, List, map, option_and_then, option_map, true, ◌<◌, ◌^◌, ◌≡◌, ◌≢◌, ◌≤◌};
+ghost use Rattle.sim_setup.specs.Setups.{falls_at as falls_at_in, in_order as in_order_of, Meets, timed_of as timed_of_data, timed_takes};
+ghost use Rattle.sim_setup.specs.{Common.Timed, Common.front_two as front_two_of, Common.list_of as list_of_data, Common.view, Crowds.Covers};
+ghost use Rattle.sim_setup.specs.{Crowds.FindsTimed, Crowds.Tallies, Setups.timeds_from as timeds_from_data};
 
 use crate::crowd::Crowd;
 use crate::fault::{SetupFault, refused};
@@ -36,7 +36,7 @@ pub fn timeds_from(
     Ok(Timeds::from_items(found))
 }
 
-#[tactic(auto, unfolding(crate::specs::Commands::timed_of, crate::specs::Commands::timed_takes))]
+#[tactic(auto, unfolding(crate::specs::Setups::timed_of, crate::specs::Setups::timed_takes))]
 fn timed_of(
     alloc: Global,
     turns: u32,

@@ -30,7 +30,7 @@ impl Model for Crowd {
 
 impl Crowd {
     /// No command yet, in any turn up to this one.
-    #[tactic(auto, using(crate::proofs::Tally::no_tallies))]
+    #[tactic(auto, using(crate::proofs::CommandLimits::no_tallies))]
     pub fn new(alloc: Global, turns: u32) -> Result<Crowd, OutOfMemory>
         requires { turns ≤ 65535 }
         ensures none { IfOk result (λ table. Tallies table []) }

@@ -1,9 +1,9 @@
 //! Codes 3 and 8 at the key `entities`.
 
-ghost use Rattle.std.specs.Prelude.{◌≡◌, map, option_map, option_and_then};
-ghost use Rattle.sim_setup.specs.{Entities.number_of as number_of_name, Entities.point_of as point_of_data, Meets.Meets};
+ghost use Rattle.std.specs.Prelude.{map, option_and_then, option_map, ◌≡◌};
 ghost use Rattle.sim_setup.specs.Common.{as_str, is_inside as is_inside_size, is_within as is_within_cells, size_of, view};
-ghost use Rattle.sim_setup.specs.Entities.{entities_in as entities_in_data, first_of as first_of_data, firsts_from as firsts_from_data, if_inside};
+ghost use Rattle.sim_setup.specs.Setups.{entities_in as entities_in_data, first_of as first_of_data, firsts_from as firsts_from_data, if_inside, Meets};
+ghost use Rattle.sim_setup.specs.Setups.{number_of as number_of_name, point_of as point_of_data};
 
 use crate::fault::{SetupFault, refused};
 use serde_json::Value;
@@ -46,7 +46,7 @@ pub fn firsts_from(
     Ok(Firsts::from_items(found))
 }
 
-#[tactic(auto, unfolding(crate::specs::Entities::first_of))]
+#[tactic(auto, unfolding(crate::specs::Setups::first_of))]
 fn first_of(library: &Library<'_>, land: &Land, players: u8, item: &Value) -> Option<First>
     ensures { result ≡ first_of_data library.now.names land.now players (view item.now) }
 {

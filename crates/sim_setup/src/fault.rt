@@ -1,7 +1,7 @@
 //! How a match file is refused. It stands apart since each pass refuses in its own code.
 
-ghost use Rattle.std.specs.Prelude.{◌^◌, ◌<◌, ◌≢◌};
-ghost use Rattle.sim_setup.specs.Meets.{Tells};
+ghost use Rattle.std.specs.Prelude.{◌<◌, ◌^◌, ◌≢◌};
+ghost use Rattle.sim_setup.specs.Setups.{Tells};
 
 use sim_base::OutOfMemory;
 use std::alloc::{AllocError, AllocFailed};

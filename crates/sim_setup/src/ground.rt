@@ -1,9 +1,8 @@
 //! Code 3 at the keys `size` and `closed`; and with the players' masks the land of a match.
 
-ghost use Rattle.std.specs.Prelude.{◌≡◌, ◌<◌, ◌≤◌, map, length, IfOk, None, codes};
-ghost use Rattle.sim_setup.specs.{Common.list_at as list_at_key, Common.view, Ground.rects_from as rects_from_data, Ground.size_in as size_in_data};
-ghost use Rattle.sim_setup.specs.Ground.{closed_in as closed_in_data, land_in as land_in_data, rect_of as rect_of_data, rect_on as rect_on_size};
-ghost use Rattle.sim_setup.specs.Meets.{Meets};
+ghost use Rattle.std.specs.Prelude.{codes, IfOk, length, map, None, ◌<◌, ◌≡◌, ◌≤◌};
+ghost use Rattle.sim_setup.specs.Setups.{closed_in as closed_in_data, land_in as land_in_data, Meets, rect_of as rect_of_data, rect_on as rect_on_size};
+ghost use Rattle.sim_setup.specs.{Common.list_at as list_at_key, Common.view, Setups.rects_from as rects_from_data, Setups.size_in as size_in_data};
 
 use crate::fault::SetupFault;
 use crate::players::masks_in;

@@ -1,7 +1,7 @@
 //! What the index of a refusal says of a list: the items before it are read, and the one at it is not, beside their
 //! records; or a turn falls there, and none before. Each function does nothing; its contract is the law.
 
-ghost use Rattle.sim_setup.specs.Laws.{CommandIndexIsLeast, EntityIndexIsLeast, FallIndexIsLeast, SourceIndexIsLeast, TemplateIndexIsLeast};
+ghost use Rattle.sim_setup.specs.Setups.{CommandIndexIsLeast, EntityIndexIsLeast, FallIndexIsLeast, SourceIndexIsLeast, TemplateIndexIsLeast};
 
 /// The index of a source that is refused is the least, behind the places of the keys.
 pub fn source_index_is_least()

@@ -1,12 +1,10 @@
 //! The passes over a match file, one after another in the order of their codes, so that the first code that applies is
 //! the answer.
 
-ghost use Rattle.std.specs.Prelude.{◌≡◌, ◌≤◌, false, ◌≢◌, [], length, IfSome, IfOk, All};
-ghost use Rattle.sim_setup.specs.{Meets.Meets, Shape.misplaced as misplaced_in};
-ghost use Rattle.sim_setup.specs.{Setups.setup_of as setup_of_bytes, Setups.setup_with as setup_with_parts, Setups.without_commands, Sources.IsReadySource};
-ghost use Rattle.sim_setup.specs.Common.{is_utf8, IsSetup, IsTemplate, origins_of, view};
-ghost use Rattle.sim_setup.specs.Setups.{limits_in as limits_in_data};
-ghost use Rattle.sim_setup.specs.Setups.{session_setup_of as session_setup_of_bytes, setup_in as setup_in_data};
+ghost use Rattle.std.specs.Prelude.{[], All, false, IfOk, IfSome, length, ◌≡◌, ◌≢◌, ◌≤◌};
+ghost use Rattle.sim_setup.specs.Setups.{limits_in as limits_in_data, Meets, misplaced as misplaced_in, session_setup_of as session_setup_of_bytes};
+ghost use Rattle.sim_setup.specs.Setups.{setup_in as setup_in_data, setup_of as setup_of_bytes, setup_with as setup_with_parts, without_commands};
+ghost use Rattle.sim_setup.specs.{Common.IsSetup, Common.IsTemplate, Common.is_utf8, Common.origins_of, Common.view, Refusals.IsReadySource};
 
 use crate::fault::SetupFault;
 use crate::ground::land_in;

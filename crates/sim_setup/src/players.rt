@@ -1,8 +1,8 @@
 //! Code 3 at the key `players`: the enemies of each player, as masks.
 
-ghost use Rattle.std.specs.Prelude.{◌≡◌, ◌<◌, ◌≤◌, map, length, IfSome, IfOk, None, codes};
-ghost use Rattle.sim_setup.specs.{Common.list_at as list_at_key, Common.view, Players.masks_in as masks_in_data};
-ghost use Rattle.sim_setup.specs.Players.{enemy_in as enemy_in_data, mask_from as mask_from_data, mask_of as mask_of_data, masks_from as masks_from_data};
+ghost use Rattle.std.specs.Prelude.{codes, IfOk, IfSome, length, map, None, ◌<◌, ◌≡◌, ◌≤◌};
+ghost use Rattle.sim_setup.specs.Setups.{enemy_in as enemy_in_data, mask_from as mask_from_data, mask_of as mask_of_data, masks_from as masks_from_data};
+ghost use Rattle.sim_setup.specs.{Common.list_at as list_at_key, Common.view, Setups.masks_in as masks_in_data};
 
 use serde_json::Value;
 use sim_base::{Ids, OutOfMemory};

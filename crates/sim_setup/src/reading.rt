@@ -1,9 +1,9 @@
 //! Codes 3 to 10 at the lists of a match file, which are read by its ground and its rules.
 
-ghost use Rattle.std.specs.Prelude.{◌≡◌, ◌≤◌, ◌≢◌, map, length, IfOk, None, All};
-ghost use Rattle.sim_setup.specs.{Common.IsTemplate, Common.origins_of, Common.view, Entities.entities_in as entities_in_data, Meets.Meets};
-ghost use Rattle.sim_setup.specs.{Sources.AreResolvable, Sources.IsReadySource, Templates.few_sources};
-ghost use Rattle.sim_setup.specs.Setups.{commands_in as commands_in_data, items_in as items_in_data, lists_in as lists_in_data, players_of as players_of_land};
+ghost use Rattle.std.specs.Prelude.{All, IfOk, length, map, None, ◌≡◌, ◌≢◌, ◌≤◌};
+ghost use Rattle.sim_setup.specs.Setups.{commands_in as commands_in_data, entities_in as entities_in_data, few_sources, items_in as items_in_data};
+ghost use Rattle.sim_setup.specs.Setups.{lists_in as lists_in_data, players_of as players_of_land};
+ghost use Rattle.sim_setup.specs.{Common.IsTemplate, Common.origins_of, Common.view, Refusals.AreResolvable, Refusals.IsReadySource, Setups.Meets};
 
 use crate::commands::{in_order, timeds_from};
 use crate::entities::{entities_in, firsts_from};

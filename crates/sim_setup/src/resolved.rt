@@ -1,7 +1,6 @@
 //! Codes 4 to 6: the sources with all that they inherit.
 
-ghost use Rattle.sim_setup.specs.{Common.origins_of, Meets.LibraryMeets, Meets.Refuses, Sources.AreResolvable};
-ghost use Rattle.sim_setup.specs.Templates.{roots_of};
+ghost use Rattle.sim_setup.specs.{Common.origins_of, Refusals.AreResolvable, Setups.LibraryMeets, Setups.Refuses, Setups.roots_of};
 
 use crate::fault::SetupFault;
 use sim_merge::{Library, MergeFault};

@@ -1,7 +1,7 @@
 //! Code 3 at the keys `cap`, `delay`, `turns` and `seed`.
 
-ghost use Rattle.std.specs.Prelude.{◌≤◌, ◌≢◌, IfOk};
-ghost use Rattle.sim_setup.specs.{Common.view, Meets.Meets, Rules.rules_in as rules_in_data};
+ghost use Rattle.std.specs.Prelude.{IfOk, ◌≢◌, ◌≤◌};
+ghost use Rattle.sim_setup.specs.{Common.view, Setups.Meets, Setups.rules_in as rules_in_data};
 
 use crate::fault::SetupFault;
 use serde_json::Value;

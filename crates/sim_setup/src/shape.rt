@@ -1,7 +1,7 @@
 //! Code 2: whether a file is an object with exactly the ten keys of a match, each with a value of its kind.
 
 ghost use Rattle.std.specs.Prelude.{◌≡◌};
-ghost use Rattle.sim_setup.specs.{Common.view, Shape.misplaced as misplaced_in};
+ghost use Rattle.sim_setup.specs.{Common.view, Setups.misplaced as misplaced_in};
 
 use serde_json::Value;
 use sim_json::{has_list, has_row, has_table, has_table_of, has_whole, other_key};

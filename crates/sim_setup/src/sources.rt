@@ -1,9 +1,9 @@
 //! Code 2 at the items of `templates`, and code 3 at that key: the sources of the templates, which may be at most 256 and
 //! have different names. All items are read before any limit is looked at.
 
-ghost use Rattle.std.specs.Prelude.{◌≡◌, ◌+◌, ◌^◌, ◌<◌, ◌&&◌, ◌≢◌, map, length, IfSome, IfOk, IfErr, IsErr, nat_le, All, option_map};
-ghost use Rattle.sim_setup.specs.{Common.are_distinct, Common.names_in, Common.origin_of, Common.origins_of, Common.view, Meets.SourcesMeet, Meets.Tells};
-ghost use Rattle.sim_setup.specs.Sources.{IsReadySource, source_of as source_of_data, sources_from as sources_from_data, sources_in as sources_in_data};
+ghost use Rattle.std.specs.Prelude.{All, IfErr, IfOk, IfSome, IsErr, length, map, nat_le, option_map, ◌&&◌, ◌+◌, ◌<◌, ◌^◌, ◌≡◌, ◌≢◌};
+ghost use Rattle.sim_setup.specs.Refusals.{IsReadySource, source_of as source_of_data, sources_from as sources_from_data, sources_in as sources_in_data};
+ghost use Rattle.sim_setup.specs.{Common.are_distinct, Common.names_in, Common.origin_of, Common.origins_of, Common.view, Setups.SourcesMeet, Setups.Tells};
 
 use crate::fault::{SetupFault, refused};
 use serde_json::Value;
@@ -54,7 +54,7 @@ fn refused_item(number: usize) -> SetupFault
     }
 }
 
-#[tactic(auto, unfolding(crate::specs::Sources::source_of))]
+#[tactic(auto, unfolding(crate::specs::Refusals::source_of))]
 fn source_of<'a>(alloc: Global, item: &'a Value) -> Result<Option<Source<'a>>, OutOfMemory>
     ensures value { IfOk result (λ source. option_map origin_of source ≡ source_of_data (view item.now)) }
     ensures ready { IfOk result (λ source. IfSome source IsReadySource) }

@@ -1,8 +1,8 @@
 //! Code 7: the templates of resolved sources.
 
-ghost use Rattle.std.specs.Prelude.{◌≡◌, ◌<◌, ◌≤◌, ◌≢◌, length, IfSome, IfOk, IfErr, IsErr, Some, None, All};
-ghost use Rattle.sim_setup.specs.{Meets.Meets, Templates.template_at as template_at_number, Templates.templates_from as templates_from_sources};
+ghost use Rattle.std.specs.Prelude.{All, IfErr, IfOk, IfSome, IsErr, length, None, Some, ◌<◌, ◌≡◌, ◌≢◌, ◌≤◌};
 ghost use Rattle.sim_setup.specs.Common.{IsTemplate, names_in, origin_of, origins_of};
+ghost use Rattle.sim_setup.specs.Setups.{Meets, template_at as template_at_number, templates_from as templates_from_sources};
 
 use crate::fault::{SetupFault, refused};
 use sim_base::{OutOfMemory, Template, Templates};
@@ -32,7 +32,7 @@ pub fn templates_from(
     Ok(Templates::from_items(found))
 }
 
-#[tactic(auto, unfolding(crate::specs::Templates::template_at))]
+#[tactic(auto, unfolding(crate::specs::Setups::template_at))]
 fn template_at(
     alloc: Global,
     source: &Source<'_>,

@@ -1,25 +1,23 @@
 -- The words that the proofs here name again and again, passed on from one place. Declares nothing.
-pub use Rattle.{serde_json.specs.View.view, std.specs.List.range_with_len, std.specs.List.Sorted.IsNonDecreasingBy, std.specs.List.Sorted.IsPartitionPoint}
-pub use Rattle.{sim_base.specs.Limits.IsSetup, sim_base.specs.Rows.template_of, sim_system.specs.RigWords.systems_by}
-pub use Rattle.{sim_json.specs.Records.numbered, sim_json.specs.Records.records, sim_stock.specs.Economies.earliest, sim_stock.specs.Economies.IsEconomy}
-pub use Rattle.std.proofs.{Math.ListN.set, lemmas.List.FromFn.fill_by_all, lemmas.List.FromFn.map-range_with_len_more}
-pub use Rattle.std.proofs.Common.{drop, ◌==◌, Some, Ok, Err, fold, All, count_by, Result, refl, ap, arith, inl, inr, rules, subst, sym, ◌∙◌}
-pub use Rattle.std.proofs.Common.{◌≡◌, ℕ, zero, suc, ◌+◌, ◌-◌, ◌*◌, ◌/◌, ◌^◌, ◌<◌, ◌≤◌, Bool, true, false, cond, List, [], ◌∷◌, ◌++◌, map, length, get_or, take}
-pub use Rattle.std.proofs.lemmas.{List.Sums.fold_push, List.Sums.get_or-le-sum_by, List.Sums.sum_by-cons, List.Sums.sum_by-le, Option.unwrap_or-slice_get}
+pub use Rattle.sim_base.specs.{Commands.commanded, Limits.IsSetup, Limits.IsState, Limits.IsValid, Limits.IsValidRow, Rows.template_of, Turn.after}
+pub use Rattle.sim_base.specs.{Turn.orders_at, Turn.turn, declared.command.PlayerCommand.PlayerCommand, declared.setup.Setup.Setup, declared.state.Row.Row}
+pub use Rattle.sim_board.specs.Boards.{AreKept, IsWholeBy, rig_in, setup_in, state_in}
+pub use Rattle.sim_stock.specs.Economies.{amount_of, AreBelow, dated_of, earliest, gained, IsDated, IsDeedBy, IsEconomy, IsRate, IsStart, named_of, no_rate}
+pub use Rattle.sim_stock.specs.Economies.{pair_of, rate_at, rate_named, rates_of, spent, total}
+pub use Rattle.sim_stock.specs.PaidTurns.{IsDatedDeed, IsDeedOf, kept, kept_in, kept_past, kind_of, made_row, paid, paid_turn, price_of, with_deeds}
+pub use Rattle.sim_stock.specs.PaidTurns.{affords, Books, books_after, books_of, charged, collected, dealt, deed, deeds_at, earned, given, is_kept, IsAsked}
+pub use Rattle.sim_stock.specs.declared.{amounts.NamedRate.NamedRate, deed.DatedDeed.DatedDeed, deed.Deed.Deed, deed.Deed.TheVariants.Barter}
+pub use Rattle.sim_stock.specs.declared.{deed.Deed.TheVariants.Tribute, economy.Economy.Economy, rate.Rate.Rate, stocks.Stocks.Stocks}
+pub use Rattle.std.proofs.Common.{Some, rules, subst, suc, sym, take, true, zero, ℕ, ◌*◌, ◌++◌, ◌+◌, ◌-◌, ◌/◌, ◌<◌, ◌==◌, ◌^◌, ◌∙◌, ◌∷◌, ◌≡◌, ◌≤◌}
+pub use Rattle.std.proofs.Common.{[], All, ap, arith, Bool, cond, count_by, drop, Err, false, fold, get_or, inl, inr, length, List, map, Ok, refl, Result}
 pub use Rattle.std.proofs.lemmas.Bool.{and_parts, cases_lt, eq-eqb, leb-true, ltb-false, ltb-true, ne_eqb}
 pub use Rattle.std.proofs.lemmas.List.Elements.{All-cons, All-filter, All-head, All-map, All-push, All-tail}
-pub use Rattle.std.proofs.lemmas.List.Sorted.{IsNonDecreasingBy-push, IsPartitionedBy-ltb, IsPartitionPoint-from_clause}
-pub use Rattle.std.specs.Prelude.{if◌then◌else◌, OnOk, nat_lt, nat_le, slice_get, MatchOption, None, sum, filter, find, Option, unwrap_or, option_map}
-pub use Rattle.sim_base.specs.{Commands.commanded, Turn.after, Turn.orders_at, Turn.turn, Validity.IsState, Validity.IsValid, Validity.IsValidRow}
-pub use Rattle.sim_base.specs.declared.{command.PlayerCommand.PlayerCommand, setup.Setup.Setup, state.Row.Row, state.State.State, template.Template.Template}
-pub use Rattle.sim_board.specs.BoardWords.{AreKept, IsWholeBy, rig_in, setup_in, state_in}
-pub use Rattle.sim_laws.{proofs.Turning.turn_is_counted, proofs.Turning.turn_keeps_valid, specs.CommandLaws.IsOrderOf}
-pub use Rattle.sim_stock.specs.{DeedItems.dated_of, DeedItems.IsDated, DeedItems.IsDeedBy, Rates.IsRate, Rates.no_rate, Rates.rate_at}
-pub use Rattle.sim_stock.specs.Amounts.{named_of, opening, pair_of, rate_named, rates_of}
-pub use Rattle.sim_stock.specs.Deeds.{deed, given, IsAsked, IsDatedDeed, IsDeedOf, kind_of}
-pub use Rattle.sim_stock.specs.PaidTurns.{affords, Books, books_after, books_of, charged, collected, dealt, deeds_at, earned, is_kept, kept, kept_in, kept_past}
-pub use Rattle.sim_stock.specs.PaidTurns.{made_row, paid, paid_turn, price_of, with_deeds}
-pub use Rattle.sim_stock.specs.Stocks.{amount_of, AreBelow, gained, IsStart, spent, total}
-pub use Rattle.sim_stock.specs.declared.{amounts.NamedRate.NamedRate, economy.Economy.Economy, stocks.Stocks.Stocks}
-pub use Rattle.sim_stock.specs.declared.{deed.DatedDeed.DatedDeed, deed.Deed.Deed, deed.Deed.TheVariants.Barter, deed.Deed.TheVariants.Tribute, rate.Rate.Rate}
+pub use Rattle.std.proofs.lemmas.List.{FromFn.fill_by_all, FromFn.map-range_with_len_more, Sorted.IsNonDecreasingBy-push, Sorted.IsPartitionPoint-from_clause}
+pub use Rattle.std.proofs.lemmas.List.{Sorted.IsPartitionedBy-ltb, Sums.fold_push, Sums.get_or-le-sum_by, Sums.sum_by-cons, Sums.sum_by-le}
+pub use Rattle.std.specs.List.{Sorted.IsNonDecreasingBy, Sorted.IsPartitionPoint, range_with_len}
+pub use Rattle.std.specs.Prelude.{filter, find, if◌then◌else◌, MatchOption, nat_le, nat_lt, None, OnOk, Option, option_map, slice_get, sum, unwrap_or}
+pub use Rattle.{serde_json.specs.View.view, sim_base.specs.declared.state.State.State, sim_base.specs.declared.template.Template.Template}
+pub use Rattle.{sim_json.specs.Commands.numbered, sim_json.specs.Commands.records, sim_laws.proofs.Turning.turn_is_counted}
+pub use Rattle.{sim_laws.proofs.Turning.turn_keeps_valid, sim_laws.specs.TurnLaws.IsOrderOf, sim_stock.specs.Economies.opening}
+pub use Rattle.{sim_system.specs.RigWords.systems_by, std.proofs.Math.ListN.set, std.proofs.lemmas.Option.unwrap_or-slice_get}
 unfoldable pub use Rattle.sim_stock.specs.PaidTurns.{obeyed, settled}

@@ -2,6 +2,5 @@ pub mod Common
 pub mod Balances
 mod Examples
 pub mod Paying
-mod RateLimits
 mod Runs
 mod Stretches

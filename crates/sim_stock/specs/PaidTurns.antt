@@ -1,10 +1,52 @@
 -- A turn in which what players make has a price: deeds, commands, the rest of the turn, and the income.
-use Rattle.std.specs.Prelude.{ℕ, zero, suc, ◌+◌, Bool, ◌&&◌, List, [], ◌∷◌, ◌++◌, length, if◌then◌else◌, nat_lt, nat_le, ◌==◌, fold, filter}
-use Rattle.sim_base.specs.{Commands.commanded, Turn.first_state, Turn.orders_at, Turn.Past, Turn.Turn, Turn.turn}
-use Rattle.sim_base.specs.declared.{command.Command.Command, command.PlayerCommand.PlayerCommand, setup.Setup.Setup, state.Row.Row, state.State.State}
 use Rattle.sim_base.specs.declared.command.Command.TheVariants.{Attack, Delete, Place, Resign, Stop, Train, Walk}
-use Rattle.sim_stock.specs.{Deeds.deed, Rates.no_rate, Rates.rate_at, Stocks.amount_of, Stocks.gained, Stocks.spent}
-use Rattle.sim_stock.specs.declared.{deed.DatedDeed.DatedDeed, economy.Economy.Economy, rate.Rate.Rate, stocks.Stocks.Stocks}
+use Rattle.sim_base.specs.declared.{command.Command.Command, command.PlayerCommand.PlayerCommand, setup.Setup.Setup, state.Row.Row, state.State.State}
+use Rattle.sim_base.specs.{Commands.commanded, Limits.IsFrom, Limits.IsValid, Turn.Past, Turn.Turn, Turn.first_state, Turn.orders_at, Turn.turn}
+use Rattle.sim_board.specs.{Boards.AreKept, Boards.IsWholeBy, Boards.setup_in, Boards.state_in, declared.board.Board.Board}
+use Rattle.sim_stock.specs.Economies.{amount_of, AreBelow, gained, IsEconomy, no_rate, rate_at, spent, total}
+use Rattle.sim_stock.specs.declared.deed.{DatedDeed.DatedDeed, Deed.Deed, Deed.TheVariants.Barter, Deed.TheVariants.Tribute}
+use Rattle.std.specs.Prelude.{[], All, Bool, filter, fold, if◌then◌else◌, length, List, nat_le, nat_lt, OnOk, Result, suc, true, zero, ℕ, ◌&&◌, ◌*◌, ◌++◌, ◌+◌}
+use Rattle.std.specs.Prelude.{◌-◌, ◌/◌, ◌<◌, ◌==◌, ◌^◌, ◌∷◌, ◌≡◌, ◌≢◌, ◌≤◌}
+use Rattle.{sim_laws.specs.TurnLaws.IsOrderOf, sim_stock.specs.declared.rate.Rate.Rate, sim_system.specs.Meanings.Meaning, sim_system.specs.RigWords.systems_by}
+use Rattle.{sim_stock.specs.declared.economy.Economy.Economy, sim_stock.specs.declared.stocks.Stocks.Stocks, sim_system.specs.declared.system.System.Ghosts}
+
+-- What a deed makes of the stocks, and what a handler of deeds may be asked.
+
+-- the number of a deed's kind
+abbrev pub kind_of : Deed → ℕ
+kind_of (Tribute other good amount) = 1
+kind_of (Barter good amount) = 2
+
+-- a player gives an amount away and something comes of it, or he lacks the amount and nothing changes
+abbrev pub given : Stocks → ℕ → ℕ → ℕ → (Stocks → Stocks) → Stocks
+given stocks player good amount comes = if nat_le amount (amount_of player good stocks) then comes (spent player good amount stocks) else stocks
+
+-- the stocks after a player's deed: a tribute goes to another player, and a barter brings four fifths, rounded down, of the other good
+abbrev pub deed : Stocks → ℕ → Deed → Stocks
+deed stocks player (Tribute other good amount) = given stocks player good amount (gained other good amount)
+deed stocks player (Barter good amount) = given stocks player good amount (gained player (1 - good) (amount * 4 / 5))
+
+-- an amount of food or metal
+pub record IsAmount (good amount : ℕ) : Type 0 where
+  pub good_is : good ≤ 1
+  pub amount_is : amount < 2 ^ 64
+
+-- a player's deed gives an amount of a good, a tribute to another player
+abbrev pub IsDeedOf : ℕ → Deed → Type 0
+IsDeedOf player (Tribute other good amount) = IsFrom 1 8 other × (other ≢ player) × IsAmount good amount
+IsDeedOf player (Barter good amount) = IsAmount good amount
+
+-- a deed of this kind is done by a player on stocks below 2^40
+pub record IsAsked (kind : ℕ) (stocks : Stocks) (player : ℕ) (deed : Deed) : Type 0 where
+  pub below : AreBelow (2 ^ 40) stocks
+  pub player_is : IsFrom 1 8 player
+  pub kind_is : kind_of deed ≡ kind
+  pub deed_is : IsDeedOf player deed
+
+-- a deed with its turn is done by one of eight players
+pub record IsDatedDeed (dated : DatedDeed) : Type 0 where
+  pub player_is : IsFrom 1 8 dated.player
+  pub deed_is : IsDeedOf dated.player dated.deed
 
 -- a match and what its players have
 pub record Books : Type 0 where
@@ -36,6 +78,11 @@ price_of prices Resign = no_rate
 -- a player has as much of both goods
 abbrev pub affords : ℕ → Rate → Stocks → Bool
 affords player rate stocks = nat_le rate.food (amount_of player 0 stocks) && nat_le rate.metal (amount_of player 1 stocks)
+
+-- it is a player, who has as much of both
+pub record CanPay (player : ℕ) (rate : Rate) (stocks : Stocks) : Type 0 where
+  pub player_is : IsFrom 1 8 player
+  pub enough : affords player rate stocks ≡ true
 
 -- a player has paid a price
 abbrev pub paid : ℕ → Rate → Stocks → Stocks
@@ -104,3 +151,82 @@ books_after setup economy (suc n) = paid_turn setup economy (books_after setup e
 abbrev pub kept_past : Setup → Economy → ℕ → Past
 kept_past setup economy zero = []
 kept_past setup economy (suc n) = Turn (kept_in setup economy (books_after setup economy n) (orders_at (suc n) setup.commands)) ∷ kept_past setup economy n
+
+-- What a paid turn and its parts ask, and what becomes of the board and of the stocks: the facts of each call by name. A clause passes
+-- ⟦<dyn System as System>⟧ for `sys`.
+
+-- ---- before
+
+-- a turn may end and bring its income: the match has one more, the economy is one of it, and the stocks may rise
+pub record MaySettleBy {X : Type 0} {F : X → Type 0} (given : Economy) (board : Board X F) (stocks : Stocks) (meaning : (i : X) → F i → Meaning)
+    : Type 0 where
+  pub whole : IsWholeBy board meaning
+  pub below : (state_in board).turn < (setup_in board).turns
+  pub economy : IsEconomy (setup_in board) given
+  pub total : total stocks + 8192000 < 2 ^ 40
+
+-- a whole paid turn may be played with these commands
+pub record MayPayBy {X : Type 0} {F : X → Type 0} (given : Economy) (board : Board X F) (stocks : Stocks) (orders : List PlayerCommand)
+    (meaning : (i : X) → F i → Meaning) : Type 0 where
+  pub whole : IsWholeBy board meaning
+  pub valid : IsValid (setup_in board) (state_in board)
+  pub below : (state_in board).turn < (setup_in board).turns
+  pub players : All (IsOrderOf (setup_in board)) orders
+  pub economy : IsEconomy (setup_in board) given
+  pub total : total stocks + 8192000 < 2 ^ 40
+
+-- ---- behind
+
+-- stocks that were changed to these are no more than they were
+pub record AreLeft (last before after : Stocks) : Type 0 where
+  pub stocks : after ≡ last
+  pub total : total after ≤ total before
+
+-- The board and the stocks come to these books, if there was memory, and the board is whole then. However it ends, the stocks are no more
+-- than they were, no system was built since, and the match of the board is the same.
+pub record ServesToBy {X : Type 0} {F : X → Type 0} {A E : Type 0} (outcome : Result A E) (last : Books) (old new : Board X F) (before after : Stocks)
+    (meaning : (i : X) → F i → Meaning) : Type 0 where
+  pub books : OnOk outcome (books_of (state_in new) after ≡ last)
+  pub total : total after ≤ total before
+  pub whole : OnOk outcome (IsWholeBy new meaning)
+  pub kept : AreKept (systems_by old.rig meaning) (systems_by new.rig meaning)
+  pub setup : setup_in new ≡ setup_in old
+
+-- They come to these books in the same way, but the stocks may have risen by the income of a turn.
+pub record SettlesToBy {X : Type 0} {F : X → Type 0} {A E : Type 0} (outcome : Result A E) (last : Books) (old new : Board X F) (before after : Stocks)
+    (meaning : (i : X) → F i → Meaning) : Type 0 where
+  pub books : OnOk outcome (books_of (state_in new) after ≡ last)
+  pub total : OnOk outcome (total after ≤ total before + 8192000)
+  pub whole : OnOk outcome (IsWholeBy new meaning)
+  pub kept : AreKept (systems_by old.rig meaning) (systems_by new.rig meaning)
+  pub setup : setup_in new ≡ setup_in old
+
+-- so they do by a whole turn, and the state is valid
+pub record PaysToBy {X : Type 0} {F : X → Type 0} {A E : Type 0} (outcome : Result A E) (last : Books) (old new : Board X F) (before after : Stocks)
+    (meaning : (i : X) → F i → Meaning) : Type 0 where
+  pub books : OnOk outcome (books_of (state_in new) after ≡ last)
+  pub total : OnOk outcome (total after ≤ total before + 8192000)
+  pub valid : OnOk outcome (IsValid (setup_in old) (state_in new))
+  pub whole : OnOk outcome (IsWholeBy new meaning)
+  pub kept : AreKept (systems_by old.rig meaning) (systems_by new.rig meaning)
+  pub setup : setup_in new ≡ setup_in old
+
+-- ---- the same, as a clause has them
+
+abbrev pub MaySettle : {X : Type 0} {F : X → Type 0} → Economy → Board X F → Stocks → ((i : X) → Ghosts (F i)) → Type 0
+MaySettle economy board stocks sys = MaySettleBy economy board stocks (λ i v. (sys i).meaning v)
+
+abbrev pub MayPay : {X : Type 0} {F : X → Type 0} → Economy → Board X F → Stocks → List PlayerCommand → ((i : X) → Ghosts (F i)) → Type 0
+MayPay economy board stocks orders sys = MayPayBy economy board stocks orders (λ i v. (sys i).meaning v)
+
+abbrev pub ServesTo : {X : Type 0} {F : X → Type 0} {A E : Type 0} → Result A E → Books → Board X F → Board X F → Stocks → Stocks
+    → ((i : X) → Ghosts (F i)) → Type 0
+ServesTo outcome last old new before after sys = ServesToBy outcome last old new before after (λ i v. (sys i).meaning v)
+
+abbrev pub SettlesTo : {X : Type 0} {F : X → Type 0} {A E : Type 0} → Result A E → Books → Board X F → Board X F → Stocks → Stocks
+    → ((i : X) → Ghosts (F i)) → Type 0
+SettlesTo outcome last old new before after sys = SettlesToBy outcome last old new before after (λ i v. (sys i).meaning v)
+
+abbrev pub PaysTo : {X : Type 0} {F : X → Type 0} {A E : Type 0} → Result A E → Books → Board X F → Board X F → Stocks → Stocks
+    → ((i : X) → Ghosts (F i)) → Type 0
+PaysTo outcome last old new before after sys = PaysToBy outcome last old new before after (λ i v. (sys i).meaning v)

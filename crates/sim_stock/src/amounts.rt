@@ -1,11 +1,12 @@
 //! Lists of pairs of amounts: what each player begins with, and the prices and incomes of templates by their names.
 
-ghost use Rattle.{sim_stock.specs.Amounts.start_in as start_in_data, sim_stock.specs.Rates.IsRate, sim_stock.specs.Stocks.IsStart, std.specs.Str.bytes_eq};
-ghost use Rattle.std.specs.Prelude.{◌≡◌, map, IfSome, IfOk, All, position, option_map, option_and_then};
+ghost use Rattle.std.specs.Prelude.{All, IfOk, IfSome, map, option_and_then, option_map, position, ◌≡◌};
+ghost use Rattle.std.specs.Str.{bytes_eq};
 ghost use Rattle.serde_json.specs.{Find.as_str, View.view};
-ghost use Rattle.sim_stock.specs.Amounts.{is_named as is_named_in, named_from as named_from_data, named_in as named_in_data, named_of as named_of_data};
-ghost use Rattle.sim_stock.specs.Amounts.{number_of as number_of_name, opening as opening_of, pair_of as pair_of_data, pairs_from as pairs_from_data};
-ghost use Rattle.sim_stock.specs.Amounts.{rate_named as rate_named_in, rate_of as rate_of_data, rates_in as rates_in_data, rates_of as rates_of_named};
+ghost use Rattle.sim_stock.specs.Economies.{is_named as is_named_in, IsRate, IsStart, named_from as named_from_data, named_in as named_in_data};
+ghost use Rattle.sim_stock.specs.Economies.{named_of as named_of_data, number_of as number_of_name, opening as opening_of, pair_of as pair_of_data};
+ghost use Rattle.sim_stock.specs.Economies.{pairs_from as pairs_from_data, rate_named as rate_named_in, rate_of as rate_of_data, rates_in as rates_in_data};
+ghost use Rattle.sim_stock.specs.{Economies.rates_of as rates_of_named, Economies.start_in as start_in_data, Meets.Finds};
 
 use crate::rate::{Rate, Rates, rate_at};
 use crate::stocks::Stocks;
@@ -58,15 +59,13 @@ fn pairs_from(alloc: Global, items: &[Value]) -> Result<Option<Vec<Rate>>, OutOf
 }
 
 fn pair_of(item: &Value) -> Option<Rate>
-    ensures value { result ≡ pair_of_data (view item.now) }
-    ensures limits { IfSome result (IsRate 1000000000) }
+    ensures { Finds result (pair_of_data (view item.now)) (IsRate 1000000000) }
 {
     rate_of(MOST, list_of(item)?)
 }
 
 fn rate_of(limit: u64, items: &[Value]) -> Option<Rate>
-    ensures value { result ≡ rate_of_data limit (map view items.now) }
-    ensures limits { IfSome result (IsRate limit) }
+    ensures { Finds result (rate_of_data limit (map view items.now)) (IsRate limit) }
 {
     let (food, metal) = two(items)?;
     let food = natural_in(food, 0, limit)?;
@@ -137,8 +136,7 @@ fn named_of(
     done: &[NamedRate],
     item: &Value,
 ) -> Option<NamedRate>
-    ensures value { result ≡ named_of_data templates.now limit done.now (view item.now) }
-    ensures limits { IfSome result (λ n. IsRate limit n.rate) }
+    ensures { Finds result (named_of_data templates.now limit done.now (view item.now)) (λ n. IsRate limit n.rate) }
 {
     named_in(templates, limit, done, list_of(item)?)
 }
@@ -149,8 +147,7 @@ fn named_in(
     done: &[NamedRate],
     items: &[Value],
 ) -> Option<NamedRate>
-    ensures value { result ≡ named_in_data templates.now limit done.now (map view items.now) }
-    ensures limits { IfSome result (λ n. IsRate limit n.rate) }
+    ensures { Finds result (named_in_data templates.now limit done.now (map view items.now)) (λ n. IsRate limit n.rate) }
 {
     let [name, rest @ ..] = items else {
         return None;

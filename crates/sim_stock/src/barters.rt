@@ -1,7 +1,7 @@
 //! The handler of barters: an amount of a good is given up for four fifths of it of the other good.
 
 ghost use Rattle.std.specs.Prelude.{◌≡◌};
-ghost use Rattle.sim_stock.specs.Deeds.{deed as deed_of, IsAsked};
+ghost use Rattle.sim_stock.specs.PaidTurns.{deed as deed_of, IsAsked};
 
 use crate::{Deed, Stocks};
 

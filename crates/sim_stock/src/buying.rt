@@ -1,10 +1,9 @@
 //! The second part of a paid turn: each command is obeyed and, where it made an entity, paid for; or it is left out.
 
-ghost use Rattle.{sim_base.specs.Commands.commanded, sim_base.specs.Limits.IsFrom, sim_turn.specs.Turns.GoesOnTo};
-ghost use Rattle.std.specs.Prelude.{◌≡◌, ◌≤◌, true, if◌then◌else◌, OnOk, fold};
-ghost use Rattle.{sim_board.specs.BoardWords.setup_in, sim_board.specs.BoardWords.state_in, sim_stock.specs.Stocks.total};
-ghost use Rattle.sim_stock.specs.{PaidTurns.affords, PaidTurns.books_of, PaidTurns.made_row, PaidTurns.obeyed, PaidTurns.paid};
-ghost use Rattle.{sim_stock.specs.Trading.AreLeft, sim_stock.specs.Trading.ServesTo, sim_turn.specs.Turns.MayObey, sim_turn.specs.Turns.MayObeyAll};
+ghost use Rattle.std.specs.Prelude.{fold, if◌then◌else◌, OnOk, true, ◌≡◌, ◌≤◌};
+ghost use Rattle.sim_stock.specs.PaidTurns.{affords, AreLeft, books_of, CanPay, made_row, obeyed, paid, ServesTo};
+ghost use Rattle.sim_turn.specs.Turns.{GoesOnTo, MayObey, MayObeyAll};
+ghost use Rattle.{sim_base.specs.Commands.commanded, sim_board.specs.Boards.setup_in, sim_board.specs.Boards.state_in, sim_stock.specs.Economies.total};
 
 use crate::price::price_of;
 use crate::{Market, Rate, Stocks};
@@ -76,8 +75,7 @@ impl Market<'_> {
 // A player pays a price where he made something.
 #[tactic(auto, using(crate::proofs::Balances::paid_total))]
 fn charge(stocks: &mut Stocks, player: u8, price: &Rate, made: bool)
-    requires player { IsFrom 1 8 player }
-    requires enough { affords player price.now stocks.old ≡ true }
+    requires { CanPay player price.now stocks.old }
     ensures { AreLeft (if made then paid player price.now stocks.old else stocks.old) stocks.old stocks.new }
 {
     if made {

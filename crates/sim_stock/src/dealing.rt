@@ -1,8 +1,8 @@
 //! The first part and the last part of a paid turn: deeds, which players do before they command, and the income.
 
-ghost use Rattle.{sim_base.specs.declared.state.Row.Row as AnyRow, sim_stock.specs.Stocks.total, sim_stock.specs.Trading.AreLeft};
-ghost use Rattle.std.specs.Prelude.{◌≡◌, ◌+◌, ◌*◌, ◌^◌, ◌<◌, ◌≤◌, length, All};
-ghost use Rattle.sim_stock.specs.{Deeds.deed as deed_of, Deeds.IsDatedDeed, PaidTurns.brought, PaidTurns.collected, PaidTurns.dealt, Rates.IsRate};
+ghost use Rattle.std.specs.Prelude.{All, length, ◌*◌, ◌+◌, ◌<◌, ◌^◌, ◌≡◌, ◌≤◌};
+ghost use Rattle.sim_stock.specs.PaidTurns.{AreLeft, brought, collected, dealt, deed as deed_of, IsDatedDeed};
+ghost use Rattle.{sim_base.specs.declared.state.Row.Row as AnyRow, sim_stock.specs.Economies.IsRate, sim_stock.specs.Economies.total};
 
 use crate::rate::rate_at;
 use crate::{DatedDeed, DeedTable, Rate, Stocks};

@@ -1,7 +1,7 @@
 //! What a player does with his stocks, and when. A deed moves goods and touches no entity.
 
-ghost use Rattle.std.specs.Prelude.{◌≡◌, ◌<◌, ◌≤◌};
-ghost use Rattle.sim_stock.specs.Deeds.{kind_of};
+ghost use Rattle.std.specs.Prelude.{◌<◌, ◌≡◌, ◌≤◌};
+ghost use Rattle.sim_stock.specs.PaidTurns.{kind_of};
 
 use sim_base::Items;
 

@@ -1,9 +1,10 @@
 //! One deed of the list: its turn, its player, its word and what follows it.
 
+ghost use Rattle.std.specs.Prelude.{IfSome, map, option_and_then, option_map, ◌≡◌, ◌≤◌};
+ghost use Rattle.sim_stock.specs.Economies.{barter_from as barter_from_data, dated_of as dated_of_data, deed_by as deed_by_word, deed_in as deed_in_data};
+ghost use Rattle.sim_stock.specs.Economies.{good_of as good_of_data, IsAmountUpTo, IsDated, IsDeedBy, tribute_from as tribute_from_data};
+ghost use Rattle.sim_stock.specs.Meets.{Finds};
 ghost use Rattle.{serde_json.specs.View.view, sim_json.specs.Values.front_two as front_two_of, sim_json.specs.Values.list_of as list_of_data};
-ghost use Rattle.std.specs.Prelude.{◌≡◌, ◌≤◌, map, IfSome, option_map, option_and_then};
-ghost use Rattle.sim_stock.specs.DeedItems.{barter_from as barter_from_data, dated_of as dated_of_data, deed_by as deed_by_word, deed_in as deed_in_data};
-ghost use Rattle.sim_stock.specs.DeedItems.{good_of as good_of_data, IsAmountUpTo, IsDated, IsDeedBy, tribute_from as tribute_from_data};
 
 use crate::deed::{DatedDeed, Deed};
 use serde_json::Value;
@@ -13,7 +14,7 @@ use sim_json::{front_two, list_of, natural_in, two};
 const MOST: u64 = 1_000_000_000;
 
 /// A deed of one of so many players, in a turn from the earliest to the last, or None where the item is none.
-#[tactic(auto, unfolding(crate::specs::DeedItems::dated_of))]
+#[tactic(auto, unfolding(crate::specs::Economies::dated_of))]
 pub fn dated_of(players: u8, turns: u32, earliest: u32, item: &Value) -> Option<DatedDeed>
     ensures value { result ≡ dated_of_data players turns earliest (view item.now) }
     ensures limits { IfSome result (IsDated players turns) }
@@ -33,8 +34,7 @@ fn parts_of(item: &Value) -> Option<(&Value, &Value, &[Value])>
 }
 
 fn deed_in(players: u8, player: u8, items: &[Value]) -> Option<Deed>
-    ensures value { result ≡ deed_in_data players player (map view items.now) }
-    ensures limits { IfSome result (IsDeedBy players player) }
+    ensures { Finds result (deed_in_data players player (map view items.now)) (IsDeedBy players player) }
 {
     let [word, rest @ ..] = items else {
         return None;
@@ -43,8 +43,7 @@ fn deed_in(players: u8, player: u8, items: &[Value]) -> Option<Deed>
 }
 
 fn deed_by(players: u8, player: u8, word: &str, rest: &[Value]) -> Option<Deed>
-    ensures value { result ≡ deed_by_word players player word.now (map view rest.now) }
-    ensures limits { IfSome result (IsDeedBy players player) }
+    ensures { Finds result (deed_by_word players player word.now (map view rest.now)) (IsDeedBy players player) }
 {
     if word == "tribute" {
         return tribute_from(players, player, rest);
@@ -56,8 +55,7 @@ fn deed_by(players: u8, player: u8, word: &str, rest: &[Value]) -> Option<Deed>
 }
 
 fn tribute_from(players: u8, player: u8, items: &[Value]) -> Option<Deed>
-    ensures value { result ≡ tribute_from_data players player (map view items.now) }
-    ensures limits { IfSome result (IsDeedBy players player) }
+    ensures { Finds result (tribute_from_data players player (map view items.now)) (IsDeedBy players player) }
 {
     let [other, rest @ ..] = items else {
         return None;
@@ -75,8 +73,7 @@ fn tribute_from(players: u8, player: u8, items: &[Value]) -> Option<Deed>
 }
 
 fn barter_from(players: u8, player: u8, items: &[Value]) -> Option<Deed>
-    ensures value { result ≡ barter_from_data (map view items.now) }
-    ensures limits { IfSome result (IsDeedBy players player) }
+    ensures { Finds result (barter_from_data (map view items.now)) (IsDeedBy players player) }
 {
     let (good, amount) = good_of(items)?;
     Some(Deed::Barter { good, amount })
@@ -84,8 +81,7 @@ fn barter_from(players: u8, player: u8, items: &[Value]) -> Option<Deed>
 
 // A good and an amount of it.
 fn good_of(items: &[Value]) -> Option<(u8, u64)>
-    ensures value { result ≡ good_of_data (map view items.now) }
-    ensures limits { IfSome result (λ p. IsAmountUpTo 1000000000 p.0 p.1) }
+    ensures { Finds result (good_of_data (map view items.now)) (λ p. IsAmountUpTo 1000000000 p.0 p.1) }
 {
     let (good, amount) = two(items)?;
     let good = natural_in(good, 0, 1)? as u8;

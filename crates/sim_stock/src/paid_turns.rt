@@ -1,9 +1,8 @@
 //! A turn in which what players make has a price.
 
-ghost use Rattle.{sim_base.specs.Turn.turn as turn_by, sim_board.specs.BoardWords.setup_in, sim_board.specs.BoardWords.state_in};
-ghost use Rattle.std.specs.Prelude.{◌≡◌, OnOk};
-ghost use Rattle.sim_stock.specs.PaidTurns.{books_of, kept_in, paid_turn as paid_turn_by, settled};
-ghost use Rattle.sim_stock.specs.Trading.{MayPay, MaySettle, PaysTo, SettlesTo};
+ghost use Rattle.std.specs.Prelude.{OnOk, ◌≡◌};
+ghost use Rattle.sim_stock.specs.PaidTurns.{MaySettle, PaysTo, SettlesTo, books_of, kept_in, paid_turn as paid_turn_by, settled};
+ghost use Rattle.{sim_base.specs.Turn.turn as turn_by, sim_board.specs.Boards.setup_in, sim_board.specs.Boards.state_in, sim_stock.specs.PaidTurns.MayPay};
 
 use crate::dealing::{collect, deal};
 use crate::due::due_at;

@@ -1,7 +1,7 @@
 //! Food and metal that something costs or brings.
 
 ghost use Rattle.std.specs.Prelude.{◌≡◌};
-ghost use Rattle.sim_stock.specs.Rates.{rate_at as rate_in};
+ghost use Rattle.sim_stock.specs.Economies.{rate_at as rate_in};
 
 use sim_base::Items;
 

@@ -1,9 +1,10 @@
 //! The whole economy: the object, what players begin with and the two lists of rates first, then each deed.
 
-ghost use Rattle.{serde_json.specs.View.view, sim_stock.specs.Meets.Meets, sim_stock.specs.declared.deed.DatedDeed.DatedDeed as AnyDated};
-ghost use Rattle.std.specs.{List.Sorted.IsNonDecreasingBy, Prelude.◌≡◌, Prelude.false, Prelude.map, Prelude.IfOk, Prelude.All, Prelude.option_map, Str.is_utf8};
-ghost use Rattle.sim_stock.specs.{DeedItems.IsDated, Economies.economy_within as economy_within_data, Economies.few as few_of, Economies.IsEconomy};
+ghost use Rattle.std.specs.{List.Sorted.IsNonDecreasingBy, Prelude.All, Prelude.IfOk, Prelude.false, Prelude.map, Prelude.option_map, Prelude.◌≡◌, Str.is_utf8};
+ghost use Rattle.serde_json.specs.View.{view};
+ghost use Rattle.sim_stock.specs.Economies.{IsDated, IsEconomy, economy_within as economy_within_data, few as few_of};
 ghost use Rattle.sim_stock.specs.Economies.{deeds_from as deeds_from_data, economy_in as economy_in_data, economy_of as economy_of_bytes};
+ghost use Rattle.sim_stock.specs.{Meets.Meets, Meets.MeetsWithin, declared.deed.DatedDeed.DatedDeed as AnyDated};
 
 use crate::amounts::{rates_in, start_in};
 use crate::deed_items::dated_of;
@@ -35,8 +36,7 @@ pub fn economy_of(alloc: Global, setup: &Setup, bytes: &[u8]) -> Result<Economy,
 }
 
 fn economy_in(alloc: Global, setup: &Setup, value: &Value) -> Result<Economy, EconomyFault>
-    ensures meets { Meets result (economy_in_data setup.now (view value.now)) }
-    ensures limits { IfOk result (IsEconomy setup.now) }
+    ensures { MeetsWithin result (economy_in_data setup.now (view value.now)) (IsEconomy setup.now) }
 {
     if other_key(value, &KEYS) {
         return Err(NO_ECONOMY);
@@ -45,8 +45,7 @@ fn economy_in(alloc: Global, setup: &Setup, value: &Value) -> Result<Economy, Ec
 }
 
 fn economy_within(alloc: Global, setup: &Setup, value: &Value) -> Result<Economy, EconomyFault>
-    ensures meets { Meets result (economy_within_data setup.now (view value.now)) }
-    ensures limits { IfOk result (IsEconomy setup.now) }
+    ensures { MeetsWithin result (economy_within_data setup.now (view value.now)) (IsEconomy setup.now) }
 {
     let templates = setup.templates.as_slice();
     let Some(start) = start_in(alloc, setup.players, value)? else {

@@ -1,8 +1,9 @@
 //! How much food and metal each player has. Good 0 is food, and good 1 is metal.
 
-ghost use Rattle.{sim_base.specs.Limits.IsFrom, sim_stock.specs.PaidTurns.affords as affords_by};
-ghost use Rattle.sim_stock.specs.{PaidTurns.earned, PaidTurns.paid, Rates.IsRate, Stocks.amount_of, Stocks.gained, Stocks.spent, Stocks.total};
-ghost use Rattle.std.specs.Prelude.{◌+◌, ◌<◌, ◌^◌, ◌≡◌, ◌≤◌, true};
+ghost use Rattle.std.specs.Prelude.{◌+◌, ◌<◌, ◌^◌, ◌≡◌, ◌≤◌};
+ghost use Rattle.sim_base.specs.Limits.{IsFrom};
+ghost use Rattle.sim_stock.specs.Economies.{amount_of, gained, IsRate, spent, total};
+ghost use Rattle.sim_stock.specs.PaidTurns.{affords as affords_by, CanPay, earned, paid};
 
 use crate::rate::Rate;
 
@@ -71,8 +72,7 @@ impl Stocks {
 
     /// A player pays a price.
     pub fn pay(&mut self, player: u8, rate: &Rate)
-        requires player { IsFrom 1 8 player }
-        requires enough { affords_by player rate.now self.old ≡ true }
+        requires { CanPay player rate.now self.old }
         ensures { self.new ≡ paid player rate.now self.old }
     {
         self.spend(player, FOOD, rate.food);

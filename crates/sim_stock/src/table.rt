@@ -1,7 +1,7 @@
 //! The table of the stored handlers of deeds, each beside the fact that it does what its kind of deed says.
 
-ghost use Rattle.std.specs.Prelude.{◌≡◌, ℕ, ◌<◌, ◌≤◌, ◌==◌, count_by};
-ghost use Rattle.sim_stock.specs.Deeds.{deed as deed_of, IsAsked, kind_of as kind_by};
+ghost use Rattle.std.specs.Prelude.{count_by, ℕ, ◌<◌, ◌==◌, ◌≡◌, ◌≤◌};
+ghost use Rattle.sim_stock.specs.PaidTurns.{deed as deed_of, IsAsked, kind_of as kind_by};
 
 use crate::{Deed, Stocks};
 

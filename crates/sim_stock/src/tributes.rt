@@ -1,7 +1,7 @@
 //! The handler of tributes: an amount of a good goes to another player.
 
 ghost use Rattle.std.specs.Prelude.{◌≡◌};
-ghost use Rattle.sim_stock.specs.Deeds.{deed as deed_of, IsAsked};
+ghost use Rattle.sim_stock.specs.PaidTurns.{deed as deed_of, IsAsked};
 
 use crate::{Deed, Stocks};
 

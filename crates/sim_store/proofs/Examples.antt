@@ -1,8 +1,7 @@
 -- Small cases of the definitions, each with the value that a reader expects, found by computing.
-use Rattle.std.proofs.Common.{◌≡◌, ◌-◌, ◌*◌, ◌^◌, List, [], ◌∷◌, Some, Ok, Err, codes, refl}
-use Rattle.sim_base.specs.Limits.{file_limit}
-use Rattle.sim_store.specs.{Files.File, Files.file_in, Reading.reading_of, declared.fault.StoreFault.TheVariants.NoFile, declared.read.TheConstants.MAX_FILE}
-use Rattle.sim_store.specs.Counts.{after_giving, after_miss, no_counts, raised}
+use Rattle.sim_store.specs.{Held.File, Held.file_in, Reading.reading_of, Shelf.after_giving, Shelf.after_miss, Shelf.no_counts, Shelf.raised}
+use Rattle.std.proofs.Common.{Err, List, Ok, Some, [], codes, refl, ◌*◌, ◌-◌, ◌^◌, ◌∷◌, ◌≡◌}
+use Rattle.{sim_base.specs.Limits.file_limit, sim_store.specs.declared.fault.StoreFault.TheVariants.NoFile, sim_store.specs.declared.read.TheConstants.MAX_FILE}
 
 files : List File
 files =

@@ -1,6 +1,6 @@
 -- What two reads come to: bytes that were given out in two parts were given out, and files that were kept twice were kept.
-use Rattle.std.proofs.Common.{◌≡◌, ℕ, ◌+◌, Bool, List, Option, ap, arith, ◌∙◌}
-use Rattle.sim_store.specs.{Counts.after_giving, Counts.raised, Shelf.KeepsFiles, declared.counts.Counts.Counts}
+use Rattle.sim_store.specs.{Shelf.KeepsFiles, Shelf.after_giving, Shelf.raised, declared.counts.Counts.Counts}
+use Rattle.std.proofs.Common.{ap, arith, Bool, List, Option, ℕ, ◌+◌, ◌∙◌, ◌≡◌}
 
 raised-raised : (a b n : ℕ) → raised b (raised a n) ≡ raised (a + b) n
 raised-raised a b n = omega arith

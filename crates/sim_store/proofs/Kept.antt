@@ -1,9 +1,8 @@
 -- What the calls of a shelf in memory do to its files, and to what is read.
-use Rattle.std.{proofs.Common.sym, proofs.Common.◌∙◌, proofs.Math.Seq.take-append_seam, proofs.Math.Seq.take-length, specs.Str.bytes_eq}
-use Rattle.std.proofs.Common.{◌≡◌, ℕ, ◌+◌, ◌-◌, ◌≤◌, min, false, ◌≢◌, List, [], ◌∷◌, ◌++◌, length, take, drop, Some, refl, ap, arith, length-drop, rules}
-use Rattle.std.proofs.lemmas.List.{drop-drop, length-take-le, take-append-drop}
-use Rattle.sim_store.specs.{Files.File, Files.file_in, Files.FileSet, Held.AddsFirst, Held.file_of, Held.files_of, Held.first_name, declared.held.Held.Held}
-use Rattle.{sim_base.proofs.Lists.bytes_eq-same, sim_store.specs.Shelf.HeldGrows}
+use Rattle.sim_store.specs.{Held.AddsFirst, Held.File, Held.FileSet, Held.file_in, Held.file_of, Held.files_of, Held.first_name, Shelf.HeldGrows}
+use Rattle.std.proofs.Common.{[], ap, arith, drop, false, length, length-drop, List, min, refl, rules, Some, sym, take, ℕ, ◌++◌, ◌+◌, ◌-◌, ◌∙◌, ◌∷◌, ◌≡◌, ◌≢◌}
+use Rattle.std.proofs.{Common.◌≤◌, Math.Seq.take-append_seam, Math.Seq.take-length, lemmas.List.drop-drop, lemmas.List.length-take-le}
+use Rattle.{sim_base.proofs.Lists.bytes_eq-same, sim_store.specs.declared.held.Held.Held, std.proofs.lemmas.List.take-append-drop, std.specs.Str.bytes_eq}
 
 -- two names that differ are not equal
 bytes_eq-other : (name other : List ℕ) → other ≢ name → bytes_eq name other ≡ false

@@ -1,12 +1,8 @@
-pub mod Counts
-pub mod Calls
-pub mod Files
-pub mod Pieces
 pub mod Shelf
+pub mod Held
+pub mod Pieces
 pub mod Sink
 pub mod Reading
-pub mod Writing
-pub mod Held
 pub mod OpenFile
 pub mod MemShelf
 pub mod MemSink

@@ -1,7 +1,8 @@
 -- What a shelf in memory means.
-use Rattle.std.specs.Prelude.{◌≡◌, ℕ, Bool, ◌↔◌, List, is_some, if◌then◌else◌, IsTrue, Some, None, Option, option_map}
-use Rattle.sim_store.specs.{Calls.calls_in, Calls.is_next_listed, Calls.listed_in, declared.counts.Counts.Counts, declared.mem_shelf.MemShelf.MemShelf}
-use Rattle.sim_store.specs.{Counts.raised, Files.File, Held.files_of, Held.first_bytes, Held.first_name, OpenFile.bytes_left, Shelf.KeepsFiles, Shelf.KeepsReading}
+use Rattle.sim_store.specs.declared.{fault.Failed.Failed, mem_shelf.MemShelf.MemShelf}
+use Rattle.sim_store.specs.{Held.File, Held.files_of, Held.first_bytes, Held.first_name, OpenFile.bytes_left, Shelf.KeepsFiles, Shelf.KeepsReading}
+use Rattle.sim_store.specs.{Shelf.WriteCounts, Shelf.calls_in, Shelf.is_next_listed, Shelf.listed_in, Shelf.raised, declared.counts.Counts.Counts}
+use Rattle.std.specs.Prelude.{Bool, if◌then◌else◌, is_some, IsTrue, List, None, Option, option_map, Result, Some, ℕ, ◌↔◌, ◌≡◌}
 
 -- the files that the shelf holds
 abbrev pub files_on : MemShelf → List File
@@ -70,3 +71,13 @@ pub record IsCall (old new : MemShelf) : Type 0 where
 pub record IsListedCall (failed : Type 0) (old new : MemShelf) : Type 0 where
   pub fails : failed ↔ IsTrue (fails_next_on old)
   pub counted : IsCall old new
+
+-- an `open` or a `read`: one call, which failed exactly where it is listed to fail, and all files are as they were
+pub record LooksOn (failed : Type 0) (old new : MemShelf) : Type 0 where
+  pub call : IsListedCall failed old new
+  pub files : AreFilesKept old new
+
+-- a `write` or a `close`: it counts by its answer, and what is open for reading stays as it was
+pub record WritesOn {T : Type 0} (result : Result T Failed) (old new : MemShelf) : Type 0 where
+  pub counts : WriteCounts result (counts_on old) (counts_on new)
+  pub reading : KeepsReading is_open_on rest_on old new

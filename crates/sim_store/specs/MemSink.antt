@@ -1,6 +1,6 @@
 -- What a sink in memory was told, and how much it takes in all.
-use Rattle.std.specs.Prelude.{ℕ, Bool, List}
-use Rattle.sim_store.specs.{Calls.calls_in, Calls.is_next_listed, Calls.listed_in, declared.mem_sink.MemSink.MemSink}
+use Rattle.sim_store.specs.{Shelf.calls_in, Shelf.is_next_listed, Shelf.listed_in, Shelf.raised, declared.mem_sink.MemSink.MemSink}
+use Rattle.std.specs.Prelude.{Bool, List, ℕ, ◌≡◌}
 
 -- the bytes that the sink was told
 abbrev pub bytes_told : MemSink → List ℕ
@@ -25,3 +25,9 @@ failing_of sink = listed_in sink.calls
 -- whether the next write is to fail
 abbrev pub fails_next_of : MemSink → Bool
 fails_next_of sink = is_next_listed sink.calls
+
+-- it was one write, and which writes are to fail and the room are the same
+pub record IsWrite (old new : MemSink) : Type 0 where
+  pub calls : calls_of new ≡ raised 1 (calls_of old)
+  pub failing : failing_of new ≡ failing_of old
+  pub room : room_in new ≡ room_in old

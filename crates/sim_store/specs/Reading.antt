@@ -1,9 +1,10 @@
 -- What reading a whole file answers, and why.
-use Rattle.{sim_base.specs.Limits.file_limit, sim_store.specs.Counts.after_giving, sim_store.specs.Counts.after_miss, sim_store.specs.Counts.after_read_fault}
-use Rattle.{sim_store.specs.declared.counts.Counts.Counts, sim_store.specs.declared.fault.StoreFault.StoreFault, std.specs.declared.alloc.Global.Global}
-use Rattle.std.specs.Prelude.{◌≡◌, ℕ, ◌+◌, ◌<◌, ◌≤◌, Bool, ◌≢◌, List, length, if◌then◌else◌, IsTrue, IsFalse, nat_le, Some, None, Ok, Err, Option, Result, Vec}
+use Rattle.sim_base.specs.Limits.{file_limit}
 use Rattle.sim_store.specs.declared.fault.StoreFault.TheVariants.{NoFile, OutOfMemory, ReadFault, TooLong, WriteFault}
-use Rattle.{sim_store.specs.declared.shelf.Shelf.Ghosts, sim_store.specs.Shelf.KeepsFiles, std.specs.Io.KnownBytes.IsAtEnd, std.specs.Prelude.OnOk}
+use Rattle.sim_store.specs.declared.{counts.Counts.Counts, fault.Failed.Failed, fault.StoreFault.StoreFault, shelf.Shelf.Ghosts}
+use Rattle.sim_store.specs.{Held.File, Shelf.HeldSet, Shelf.KeepsFiles, Shelf.Rose, Shelf.after_giving, Shelf.after_miss, Shelf.after_read_fault, Shelf.raised}
+use Rattle.std.specs.Prelude.{Bool, Err, if◌then◌else◌, IsFalse, IsTrue, length, List, nat_le, None, Ok, OnOk, Option, Result, Some, take, Vec, ℕ, ⊤, ◌+◌, ◌<◌}
+use Rattle.std.specs.{Io.KnownBytes.Appends, Io.KnownBytes.IsAtEnd, Prelude.◌≡◌, Prelude.◌≢◌, Prelude.◌≤◌, Prelude.◌⊎◌, declared.alloc.Global.Global}
 
 -- the bytes, unless they are more than a file may have
 abbrev pub within_limit : List ℕ → Result (List ℕ) StoreFault
@@ -61,3 +62,38 @@ pub record ReadsUp {S : Type 0} (result : Result (Vec ℕ Global) StoreFault) (s
   pub causes : ReadCauses result (shelf.counts old) (shelf.counts new)
   pub end : OnOk result (IsAtEnd (shelf.rest new))
   pub files : KeepsFiles shelf.held shelf.is_making shelf.made_name shelf.made old new
+
+-- What writing a whole text or a whole file answers, and why.
+
+-- the whole text was told, or a fault came before its end and only a prefix was
+abbrev pub OutMeets : Result ⊤ StoreFault → List ℕ → Option (List ℕ) → Option (List ℕ) → Type 0
+OutMeets (Ok written) text old new = Appends old new text
+OutMeets (Err WriteFault) text old new = (part : ℕ) × (part < length text) × Appends old new (take part text)
+OutMeets (Err other) text old new = ⊥
+
+-- faults were counted exactly where a fault is answered
+abbrev pub OutCauses : Result ⊤ StoreFault → ℕ → ℕ → Type 0
+OutCauses (Ok written) old new = new ≡ old
+OutCauses (Err fault) old new = new ≡ raised 1 old
+
+-- the name holds all bytes, or after a fault a prefix of them
+abbrev pub Fills : Result ⊤ Failed → List ℕ → List ℕ → Option (List File) → Option (List File) → Type 0
+Fills (Ok written) name bytes old new = HeldSet name bytes old new
+Fills (Err failed) name bytes old new = (part : ℕ) × HeldSet name (take part bytes) old new
+
+-- the file that is being made has all bytes more, or after a fault a prefix of them, where it is told
+abbrev pub IsFilled : Result ⊤ Failed → List ℕ → Option (List ℕ) → Option (List ℕ) → Type 0
+IsFilled (Ok written) bytes old new = Appends old new bytes
+IsFilled (Err failed) bytes old new = (part : ℕ) × Appends old new (take part bytes)
+
+-- the name holds all bytes, or after a fault a prefix of them or what it held, or without memory what it held
+abbrev pub FileMeets : Result ⊤ StoreFault → List ℕ → List ℕ → Option (List File) → Option (List File) → Type 0
+FileMeets (Ok written) name bytes old new = HeldSet name bytes old new
+FileMeets (Err WriteFault) name bytes old new = (new ≡ old) ⊎ ((part : ℕ) × HeldSet name (take part bytes) old new)
+FileMeets (Err OutOfMemory) name bytes old new = new ≡ old
+FileMeets (Err other) name bytes old new = ⊥
+
+-- what was counted while a file was written: write faults, exactly where a fault is answered
+abbrev pub FileCauses : Result ⊤ StoreFault → Counts → Counts → Type 0
+FileCauses (Err WriteFault) old new = Rose old.write_faults new.write_faults × (new ≡ record old { write_faults = new.write_faults })
+FileCauses other old new = new ≡ old

@@ -1,8 +1,46 @@
 -- What each call of a shelf does, by cases on its answer.
-use Rattle.std.specs.Prelude.{◌≡◌, ℕ, Bool, true, false, ◌≢◌, List, [], ◌++◌, take, ⊤, Some, None, Ok, Err, Option, Result}
-use Rattle.sim_store.specs.{Counts.after_giving, Counts.after_miss, Counts.after_read_fault, Counts.after_write_fault, Files.File, Files.file_in, Files.FileSet}
-use Rattle.sim_store.specs.declared.{counts.Counts.Counts, fault.Failed.Failed, fault.ShelfFault.ShelfFault}
 use Rattle.sim_store.specs.declared.fault.ShelfFault.TheVariants as fault
+use Rattle.sim_store.specs.declared.{calls.Calls.Calls, counts.Counts.Counts, fault.Failed.Failed, fault.ShelfFault.ShelfFault}
+use Rattle.std.specs.Prelude.{[], Bool, Err, false, List, min, None, Ok, Option, Result, Some, take, true, ℕ, ⊤, ◌++◌, ◌+◌, ◌-◌, ◌==◌, ◌^◌, ◌≡◌, ◌≢◌, ◌≤◌}
+use Rattle.{sim_store.specs.Held.File, sim_store.specs.Held.FileSet, sim_store.specs.Held.file_in, std.specs.List.list_any}
+
+-- Counts that never fall: what rises by how much, and what it is to have risen.
+
+-- the last value of a count, at which it stands still
+abbrev pub last_count : ℕ
+last_count = 2 ^ 64 - 1
+
+-- a count that rose by this number, or by what was left up to its last value
+abbrev pub raised : ℕ → ℕ → ℕ
+raised by count = count + min by (last_count - count)
+
+-- a count rose by this number at least, or stands at its last value
+abbrev pub RoseBy : ℕ → ℕ → ℕ → Type 0
+RoseBy number before now = raised number before ≤ now
+
+-- a count rose, or stands at its last value
+abbrev pub Rose : ℕ → ℕ → Type 0
+Rose before now = RoseBy 1 before now
+
+-- nothing was counted yet
+abbrev pub no_counts : Counts
+no_counts = record { given = 0; misses = 0; read_faults = 0; write_faults = 0 }
+
+-- the counts after so many bytes more were given out
+abbrev pub after_giving : ℕ → Counts → Counts
+after_giving bytes counts = record counts { given = raised bytes counts.given }
+
+-- the counts after a name was not found
+abbrev pub after_miss : Counts → Counts
+after_miss counts = record counts { misses = raised 1 counts.misses }
+
+-- the counts after an `open` or a `read` failed
+abbrev pub after_read_fault : Counts → Counts
+after_read_fault counts = record counts { read_faults = raised 1 counts.read_faults }
+
+-- the counts after a `make`, a `write` or a `close` failed
+abbrev pub after_write_fault : Counts → Counts
+after_write_fault counts = record counts { write_faults = raised 1 counts.write_faults }
 
 -- All files are as they were, and so is the one that is being made. A clause passes what the shelf means by them.
 pub record KeepsFiles {S A : Type 0} (held_on : S → A) (is_making_on : S → Bool) (made_name_on : S → List ℕ) (made_on : S → Option (List ℕ))
@@ -80,3 +118,17 @@ WriteHolds (Err failed) name piece old new = new ≡ old
 abbrev pub MakeHolds : Result ⊤ ShelfFault → List ℕ → Option (List File) → Option (List File) → Type 0
 MakeHolds (Ok made) name old new = HeldSet name [] old new
 MakeHolds (Err refused) name old new = new ≡ old
+
+-- Calls that are counted, some of which are listed to fail.
+
+-- how many calls there were
+abbrev pub calls_in : Calls → ℕ
+calls_in calls = calls.made
+
+-- the numbers of the calls that are listed, the first call being 1
+abbrev pub listed_in : Calls → List ℕ
+listed_in calls = calls.listed.items
+
+-- whether the next call is listed
+abbrev pub is_next_listed : Calls → Bool
+is_next_listed calls = list_any (λ call. call == raised 1 calls.made) calls.listed.items

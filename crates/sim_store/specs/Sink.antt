@@ -1,6 +1,6 @@
 -- What a sink counts.
-use Rattle.std.specs.Prelude.{◌≡◌, ℕ, Ok, Err, Result}
-use Rattle.sim_store.specs.{Counts.raised, declared.fault.Failed.Failed}
+use Rattle.sim_store.specs.{Shelf.raised, declared.fault.Failed.Failed}
+use Rattle.std.specs.Prelude.{Err, Ok, Result, ℕ, ◌≡◌}
 
 -- a write that fails is a fault
 abbrev pub SinkCounts : Result ℕ Failed → ℕ → ℕ → Type 0

@@ -1,8 +1,8 @@
 //! The calls of a shelf or a sink in memory: they are counted, and each may be listed to fail. They stand apart since the
 //! two count and fail alike: every call begins by counting itself here.
 
-ghost use Rattle.std.specs.Prelude.{◌≡◌, [], ◌∷◌, ◌++◌, OnOk, OnErr};
-ghost use Rattle.sim_store.specs.{Calls.calls_in, Calls.is_next_listed, Calls.listed_in, Counts.raised};
+ghost use Rattle.std.specs.Prelude.{[], OnErr, OnOk, ◌++◌, ◌∷◌, ◌≡◌};
+ghost use Rattle.sim_store.specs.Shelf.{calls_in, is_next_listed, listed_in, raised};
 
 use crate::counts::one_more;
 use std::alloc::{AllocError, Global};

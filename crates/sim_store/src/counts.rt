@@ -2,7 +2,7 @@
 //! caller who is told of a fault, of a missing name or of too many bytes can find the cause in them.
 
 ghost use Rattle.std.specs.Prelude.{◌≡◌};
-ghost use Rattle.sim_store.specs.Counts.{after_giving, after_miss, after_read_fault, after_write_fault, raised};
+ghost use Rattle.sim_store.specs.Shelf.{after_giving, after_miss, after_read_fault, after_write_fault, raised};
 
 /// What a shelf has done since it was made. A count never falls, and stands still at the last value of its type.
 #[derive(Clone, Copy, Debug, Default, PartialEq, Eq)]

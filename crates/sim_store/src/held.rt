@@ -1,8 +1,8 @@
 //! Files in memory, the newest first. They stand apart from the shelf that holds them, so that what becomes of the list
 //! of files is said and proved over the list alone.
 
-ghost use Rattle.std.specs.Prelude.{◌≡◌, ◌-◌, ◌<◌, ◌≤◌, ◌↔◌, ◌++◌, length, OnOk, OnErr, IsOk, vec_len, vec_capacity, option_copied};
-ghost use Rattle.sim_store.specs.{Files.file_in, Files.FileSet, Held.AddsFirst, Held.files_of, Held.first_bytes, Held.first_capacity, Held.first_name};
+ghost use Rattle.std.specs.Prelude.{IsOk, length, OnErr, OnOk, option_copied, vec_capacity, vec_len, ◌++◌, ◌-◌, ◌<◌, ◌↔◌, ◌≡◌, ◌≤◌};
+ghost use Rattle.sim_store.specs.Held.{AddsFirst, file_in, files_of, FileSet, first_bytes, first_capacity, first_name};
 
 use crate::fault::Failed;
 use std::alloc::{AllocError, Global};

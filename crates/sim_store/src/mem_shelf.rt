@@ -1,10 +1,10 @@
 //! A shelf in memory. Whoever wants to run the program without files, tests above all, hands it in; its room makes a
 //! full disk at any place, and its list of calls makes any call fail.
 
-ghost use Rattle.std.specs.Prelude.{IsTrue, IsFalse, Some, None, vec_len, option_copied};
-ghost use Rattle.std.specs.Prelude.{◌≡◌, ℕ, ◌+◌, ◌<◌, ◌≤◌, min, false, ◌≢◌, ◌↔◌, List, [], ◌∷◌, ◌++◌, length, drop, is_ok, IfOk, OnOk, OnErr, IsOk, IsErr};
-ghost use Rattle.sim_store.specs.{Counts.no_counts, Files.file_in, Files.FileSet, Held.first_bytes, Held.first_capacity, Pieces.Adds, Pieces.Moves};
-ghost use Rattle.sim_store.specs.Shelf.{KeepsReading, MakeCounts, MakeHolds, OpenCounts, opens, OpenTells, ReadCounts, WriteCounts, WriteHolds};
+ghost use Rattle.std.specs.Prelude.{[], drop, false, IfOk, is_ok, IsErr, IsFalse, IsOk, IsTrue, length, List, min, None, OnErr, OnOk, option_copied, Some};
+ghost use Rattle.std.specs.Prelude.{vec_len, ℕ, ◌++◌, ◌+◌, ◌<◌, ◌↔◌, ◌∷◌, ◌≡◌, ◌≢◌, ◌≤◌};
+ghost use Rattle.sim_store.specs.Shelf.{MakeCounts, MakeHolds, OpenCounts, OpenTells, ReadCounts, WriteHolds, no_counts, opens};
+ghost use Rattle.sim_store.specs.{Held.FileSet, Held.file_in, Held.first_bytes, Held.first_capacity, Pieces.AddsWhole, Pieces.Moves, Shelf.KeepsReading};
 
 use crate::held::{Held, add_to_first, find, put_first};
 use crate::open_file::OpenFile;
@@ -97,8 +97,8 @@ impl MemShelf {
 }
 
 impl Shelf for MemShelf {
-    ghost use Rattle.sim_store.specs.MemShelf.{AreFilesKept, counts_on, fails_next_on, files_on, is_making_on, is_open_on, IsCall, IsListedCall};
-    ghost use Rattle.sim_store.specs.MemShelf.{made_name_on, made_on, rest_on, room_on};
+    ghost use Rattle.sim_store.specs.MemShelf.{counts_on, fails_next_on, files_on, is_making_on, is_open_on, IsCall, IsListedCall, LooksOn};
+    ghost use Rattle.sim_store.specs.MemShelf.{made_name_on, made_on, rest_on, room_on, WritesOn};
 
     ghost held = { λ shelf. Some (files_on shelf) };
 
@@ -116,12 +116,11 @@ impl Shelf for MemShelf {
 
     /// Fails where the call is listed, and for want of memory: it copies the file, unless that is empty.
     fn open(&mut self, name: &str) -> Result<bool, ShelfFault>
-        ensures call { IsListedCall (result ≡ Err ShelfFault.Failed) self.old self.new }
+        ensures looks { LooksOn (result ≡ Err ShelfFault.Failed) self.old self.new }
         ensures opened { is_open_on self.new ≡ opens result }
         ensures tells { OpenTells result (file_in (files_on self.old) name.now) (rest_on self.new) }
         ensures empty { file_in (files_on self.old) name.now ≡ Some [] → result ≢ Err ShelfFault.OutOfMemory }
         ensures counts { OpenCounts result (counts_on self.old) (counts_on self.new) }
-        ensures files { AreFilesKept self.old self.new }
     {
         self.reading = None;
         if self.calls.count() {
@@ -140,14 +139,13 @@ impl Shelf for MemShelf {
     /// is listed, and leaves all of it.
     fn read(&mut self, into: &mut [u8]) -> Result<usize, Failed>
         requires { IsTrue (is_open_on self.old) }
-        ensures call { IsListedCall (IsErr result) self.old self.new }
+        ensures looks { LooksOn (IsErr result) self.old self.new }
         ensures moves { Moves result into.new (rest_on self.old) (rest_on self.new) }
         ensures gives { (left : List ℕ) → rest_on self.old ≡ Some left → IfOk result (λ count. count ≡ min (length left) (length into.new)) }
         ensures behind { IfOk result (λ count. drop count into.new ≡ drop count into.old) }
         ensures err { OnErr result (into.new ≡ into.old) }
         ensures opened { IsTrue (is_open_on self.new) }
         ensures counts { ReadCounts result (counts_on self.old) (counts_on self.new) }
-        ensures files { AreFilesKept self.old self.new }
     {
         if self.calls.count() {
             self.counts.add_read_fault();
@@ -190,13 +188,11 @@ impl Shelf for MemShelf {
         ensures fits { (bytes : List ℕ) → file_in (files_on self.old) (made_name_on self.old) ≡ Some bytes
             → (IsOk result ↔ (IsFalse (fails_next_on self.old) × (length bytes + length piece.now ≤ room_on self.old))) }
         ensures call { IsCall self.old self.new }
-        ensures whole { IfOk result (λ count. count ≡ length piece.now) }
         ensures held { WriteHolds result (made_name_on self.old) piece.now (Some (files_on self.old)) (Some (files_on self.new)) }
-        ensures adds { Adds result piece.now (made_on self.old) (made_on self.new) }
+        ensures adds { AddsWhole result piece.now (made_on self.old) (made_on self.new) }
         ensures making { IsTrue (is_making_on self.new) }
         ensures name { made_name_on self.new ≡ made_name_on self.old }
-        ensures counts { WriteCounts result (counts_on self.old) (counts_on self.new) }
-        ensures reading { KeepsReading is_open_on rest_on self.old self.new }
+        ensures writes { WritesOn result self.old self.new }
     {
         if self.calls.count() || add_to_first(&mut self.files, self.room, piece).is_err() {
             self.counts.add_write_fault();
@@ -207,12 +203,10 @@ impl Shelf for MemShelf {
 
     /// Fails where the call is listed.
     fn close(&mut self) -> Result<(), Failed>
-        requires { IsTrue (is_making_on self.old) }
         ensures call { IsListedCall (IsErr result) self.old self.new }
         ensures making { is_making_on self.new ≡ false }
         ensures held { files_on self.new ≡ files_on self.old }
-        ensures counts { WriteCounts result (counts_on self.old) (counts_on self.new) }
-        ensures reading { KeepsReading is_open_on rest_on self.old self.new }
+        ensures writes { WritesOn result self.old self.new }
     {
         self.is_making = false;
         if self.calls.count() {

@@ -1,7 +1,7 @@
 //! A sink in memory, which keeps what it is told. Whoever wants the text of a program without a terminal, tests above
 //! all, hands it in; its room makes a full disk at any place, and its list of calls makes any write fail.
 
-ghost use Rattle.sim_store.specs.{Counts.raised, Pieces.Adds, Sink.SinkCounts};
+ghost use Rattle.sim_store.specs.{Pieces.AddsWhole, Sink.SinkCounts};
 ghost use Rattle.std.specs.Prelude.{◌≡◌, ◌+◌, ◌≤◌, ◌↔◌, [], ◌∷◌, ◌++◌, length, IfOk, OnOk, OnErr, IsOk, IsFalse, Some, vec_len, vec_capacity};
 
 use crate::{Calls, Failed, Sink, one_more};
@@ -68,7 +68,7 @@ impl MemSink {
 }
 
 impl Sink for MemSink {
-    ghost use Rattle.sim_store.specs.MemSink.{bytes_told, calls_of, failing_of, fails_next_of, faults_of, room_in};
+    ghost use Rattle.sim_store.specs.MemSink.{bytes_told, fails_next_of, faults_of, IsWrite, room_in};
 
     ghost told = { λ sink. Some (bytes_told sink) };
 
@@ -78,11 +78,8 @@ impl Sink for MemSink {
     /// no memory.
     fn write(&mut self, piece: &[u8]) -> Result<usize, Failed>
         ensures fits { IsOk result ↔ (IsFalse (fails_next_of self.old) × (length (bytes_told self.old) + length piece.now ≤ room_in self.old)) }
-        ensures calls { calls_of self.new ≡ raised 1 (calls_of self.old) }
-        ensures failing { failing_of self.new ≡ failing_of self.old }
-        ensures whole { IfOk result (λ count. count ≡ length piece.now) }
-        ensures room { room_in self.new ≡ room_in self.old }
-        ensures adds { Adds result piece.now (Some (bytes_told self.old)) (Some (bytes_told self.new)) }
+        ensures write { IsWrite self.old self.new }
+        ensures adds { AddsWhole result piece.now (Some (bytes_told self.old)) (Some (bytes_told self.new)) }
         ensures counts { SinkCounts result (faults_of self.old) (faults_of self.new) }
     {
         if self.calls.count() || piece.len() > self.room - self.told.len() {

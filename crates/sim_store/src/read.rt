@@ -1,8 +1,8 @@
 //! Reading a whole file, over any shelf. It is the one way by which a file's bytes come into the program, so the limit
 //! on a file's length is kept here.
 
-ghost use Rattle.std.specs.Prelude.{◌≢◌, IfSome, IsTrue};
-ghost use Rattle.sim_store.specs.{Files.file_in, Reading.LeavesOpen, Reading.reading_of, Reading.ReadMeets, Reading.ReadsUp, Reading.within_limit};
+ghost use Rattle.std.specs.Prelude.{IfSome, IsTrue, ◌≢◌};
+ghost use Rattle.sim_store.specs.{Held.file_in, Reading.LeavesOpen, Reading.ReadMeets, Reading.ReadsUp, Reading.reading_of, Reading.within_limit};
 
 use crate::{Shelf, ShelfFault, StoreFault};
 use std::alloc::Global;

@@ -2,9 +2,9 @@
 //! the program reads and writes through it alone, and is proved for every shelf that keeps these promises.
 
 ghost use Rattle.std.specs.Io.KnownBytes.{IsAtEnd};
-ghost use Rattle.std.specs.Prelude.{◌≡◌, ℕ, Bool, false, List, IfSome, is_ok, OnOk, IsTrue, Option};
-ghost use Rattle.sim_store.specs.{Files.File, Files.file_in, Pieces.Adds, Pieces.Moves, declared.counts.Counts.Counts};
+ghost use Rattle.std.specs.Prelude.{Bool, false, IfSome, is_ok, IsTrue, List, OnOk, Option, ℕ, ◌≡◌};
 ghost use Rattle.sim_store.specs.Shelf.{KeepsFiles, KeepsReading, MakeCounts, MakeHolds, OpenCounts, opens, OpenTells, ReadCounts, WriteCounts, WriteHolds};
+ghost use Rattle.sim_store.specs.{Held.File, Held.file_in, Pieces.Adds, Pieces.Moves, declared.counts.Counts.Counts};
 
 use crate::fault::{Failed, ShelfFault};
 

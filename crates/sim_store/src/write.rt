@@ -1,9 +1,9 @@
 //! Writing a whole text and a whole file, over any sink and shelf. A shelf and a sink may take a piece in parts; here
 //! the parts are put together, so that nobody else has to.
 
-ghost use Rattle.std.specs.Prelude.{◌≡◌, false, IsTrue};
+ghost use Rattle.std.specs.Prelude.{false, IsTrue, ◌≡◌};
+ghost use Rattle.sim_store.specs.Reading.{FileCauses, FileMeets, Fills, IsFilled, OutCauses, OutMeets};
 ghost use Rattle.sim_store.specs.Shelf.{HeldEmpty, KeepsReading, WriteCounts};
-ghost use Rattle.sim_store.specs.Writing.{FileCauses, FileMeets, Fills, IsFilled, OutCauses, OutMeets};
 
 use crate::{Failed, Shelf, ShelfFault, Sink, StoreFault};
 

@@ -1,8 +1,8 @@
 -- What is kept of an entity has its id, and a fact goes behind those whose ids are less.
-use Rattle.std.proofs.{Common.arith, lemmas.Bool.le-ltb}
-use Rattle.std.proofs.Common.{◌≡◌, ◌<◌, Bool, true, false, cond, List, ◌∷◌, Some, None, nat_lt, refl, ap, ◌∙◌}
-use Rattle.sim_system.specs.{Facts.id_of_fact, Facts.keeps, Facts.kept, Facts.part_for, Notes.placed, declared.fact.Fact.Fact}
 use Rattle.sim_system.specs.declared.kind.Kind.{Kind, TheVariants.Census, TheVariants.Ground, TheVariants.Range, TheVariants.Watch}
+use Rattle.sim_system.specs.{Notes.id_of_fact, Notes.keeps, Notes.kept, Notes.part_for, Notes.placed, declared.fact.Fact.Fact}
+use Rattle.std.proofs.Common.{ap, arith, Bool, cond, false, List, nat_lt, None, refl, Some, true, ◌<◌, ◌∙◌, ◌∷◌, ◌≡◌}
+use Rattle.std.proofs.lemmas.Bool.{le-ltb}
 
 pub kept_id : (kind : Kind) (fact f : Fact) → kept kind fact ≡ Some f → f.id ≡ fact.id
 kept_id kind fact f e = by (keeps kind fact) e ∙ part_id kind

@@ -1,10 +1,92 @@
 -- What a note makes of the facts that a system keeps, and when it fits them.
-use Rattle.std.specs.Prelude.{Option, unwrap_or, option_map}
-use Rattle.std.specs.Prelude.{◌≡◌, ℕ, ◌<◌, ◌≤◌, false, not, List, [], ◌∷◌, map, length, IfSome, if◌then◌else◌, IsTrue, nat_lt, ◌==◌, Some, None, filter, find}
-use Rattle.sim_base.specs.{Places.is_inside, Rows.size_of, declared.place.Point.Point, declared.setup.Land.Land}
-use Rattle.sim_system.specs.{Facts.kept, Facts.origin, Ranges.IsInRange, declared.fact.Fact.Fact}
+use Rattle.sim_base.specs.declared.change.Change.TheVariants as change
+use Rattle.sim_base.specs.declared.{change.Change.Change, place.Point.Point, place.Rect.Rect, setup.Land.Land, setup.Setup.Setup, state.Row.Row}
+use Rattle.sim_base.specs.{Commands.new_row, Commands.watchers, Limits.IsFrom, Limits.IsRawFrom, Places.is_inside, Places.rect_of, Rows.arms_of}
+use Rattle.sim_base.specs.{Rows.rect_of_row, Rows.row_of, Rows.size_of, Rows.target_of, declared.state.State.State, declared.template.Arms.Arms}
 use Rattle.sim_system.specs.declared.kind.Kind.{Kind, TheVariants.Census, TheVariants.Ground, TheVariants.Range, TheVariants.Watch}
 use Rattle.sim_system.specs.declared.note.Note.{Note, TheVariants.Aimed, TheVariants.Born, TheVariants.Gone, TheVariants.Moved, TheVariants.Owned}
+use Rattle.std.specs.Prelude.{Option, option_map, pos, slice_get, Some, true, unwrap_or, ℕ, ℤ, ◌++◌, ◌<◌, ◌==◌, ◌||◌, ◌∷◌, ◌≡◌, ◌≤◌}
+use Rattle.std.specs.Prelude.{[], All, Bool, false, filter, filter_map, find, IfSome, if◌then◌else◌, is_some, IsTrue, length, List, map, nat_lt, None, not}
+use Rattle.{sim_base.specs.declared.template.Template.Template, sim_system.specs.declared.fact.Fact.Fact, std.specs.List.Sorted.IsStrictlyIncreasing}
+
+-- What each kind of system keeps of a state.
+
+-- how far a row sees, if it can attack
+abbrev pub vision_of : Setup → Row → Option ℤ
+vision_of setup row = option_map (λ (arms : Arms). arms.vision) (arms_of setup row)
+
+-- a row as the systems see it
+abbrev pub fact_of : Setup → Row → Fact
+fact_of setup row =
+    record {
+      id = row.id;
+      at = row.at;
+      owner = row.owner;
+      health = is_some row.health;
+      vision = vision_of setup row;
+      rect = rect_of_row setup row;
+      target = target_of row;
+    }
+
+abbrev pub id_of_fact : Fact → ℕ
+id_of_fact fact = fact.id
+
+-- whether a kind keeps anything of an entity
+abbrev pub keeps : Kind → Fact → Bool
+keeps Ground fact = is_some fact.rect
+keeps Range fact = fact.health || is_some fact.vision
+keeps Watch fact = not (fact.target == 0)
+keeps Census fact = true
+
+-- stands in a fact for a place that is not kept
+abbrev pub origin : Point
+origin = record { x = pos 0; z = pos 0 }
+
+-- what a kind keeps of an entity: its own fields, and in all others one fixed value
+abbrev pub part_for : Kind → Fact → Fact
+part_for Ground fact = record { id = fact.id; at = origin; owner = 0; health = false; vision = None; rect = fact.rect; target = 0 }
+part_for Range fact = record { id = fact.id; at = fact.at; owner = fact.owner; health = fact.health; vision = fact.vision; rect = None; target = 0 }
+part_for Watch fact = record { id = fact.id; at = origin; owner = 0; health = false; vision = None; rect = None; target = fact.target }
+part_for Census fact = record { id = fact.id; at = origin; owner = fact.owner; health = false; vision = None; rect = None; target = 0 }
+
+-- what a kind keeps of an entity, if anything
+abbrev pub kept : Kind → Fact → Option Fact
+kept kind fact = if keeps kind fact then Some (part_for kind fact) else None
+
+-- what it keeps of several
+abbrev pub kept_of : Kind → List Fact → List Fact
+kept_of kind facts = filter_map (kept kind) facts
+
+-- the rows as the systems see them
+abbrev pub told_of : Setup → State → List Fact
+told_of setup state = map (fact_of setup) state.rows
+
+-- what a kind keeps of a state
+abbrev pub facts_of : Kind → Setup → State → List Fact
+facts_of kind setup state = kept_of kind (told_of setup state)
+
+-- Which facts a system may be told.
+
+-- the rectangle of an obstruction of 1 to 16 by 1 to 16 cells at a point
+pub record IsRectAt (p : Point) (r : Rect) : Type 0 where
+  pub width : ℕ
+  pub depth : ℕ
+  pub width_is : IsFrom 1 16 width
+  pub depth_is : IsFrom 1 16 depth
+  pub rect : r ≡ rect_of p width depth
+
+-- each value of a fact is one that an entity of the land may have
+pub record IsInRange (land : Land) (fact : Fact) : Type 0 where
+  pub at : IsTrue (is_inside (size_of land) fact.at)
+  pub owner : fact.owner < length land.masks
+  pub vision : IfSome fact.vision (IsRawFrom 0 16777216)
+  pub rect : IfSome fact.rect (IsRectAt fact.at)
+
+-- there are at most 4096, ascending by id, each in range
+pub record AreInRange (land : Land) (facts : List Fact) : Type 0 where
+  pub few : length facts ≤ 4096
+  pub ascending : IsStrictlyIncreasing (map id_of_fact facts)
+  pub each : All (IsInRange land) facts
 
 -- the fact of this id, if it is kept
 abbrev pub fact_with : List Fact → ℕ → Option Fact
@@ -98,3 +180,61 @@ Agrees kind land facts (Aimed id from to) = AimFits kind facts id from
 pub record NoteFits (kind : Kind) (land : Land) (facts : List Fact) (note : Note) : Type 0 where
   pub agrees : Agrees kind land facts note
   pub few : length (noted kind facts note) ≤ 4096
+
+-- The notes that a change posts, and to which systems.
+
+-- a move goes to Range
+abbrev pub hears_moves : Kind → Bool
+hears_moves Ground = false
+hears_moves Range = true
+hears_moves Watch = false
+hears_moves Census = false
+
+-- a change of owner goes to Range and Census
+abbrev pub hears_owners : Kind → Bool
+hears_owners Ground = false
+hears_owners Range = true
+hears_owners Watch = false
+hears_owners Census = true
+
+-- an aim goes to Watch
+abbrev pub hears_aims : Kind → Bool
+hears_aims Ground = false
+hears_aims Range = false
+hears_aims Watch = true
+hears_aims Census = false
+
+-- the table of subscriptions: a birth and a leaving go to all four
+abbrev pub hears : Kind → Note → Bool
+hears kind (Born fact) = true
+hears kind (Gone fact) = true
+hears kind (Moved id from to) = hears_moves kind
+hears kind (Owned id from to) = hears_owners kind
+hears kind (Aimed id from to) = hears_aims kind
+
+-- the notes on a row that is alive
+abbrev pub posts_on : Option Row → (Row → List Note) → List Note
+posts_on None notes = []
+posts_on (Some row) notes = notes row
+
+-- the note on a row that is made of a known template
+abbrev pub posts_born : Setup → Option Row → List Note
+posts_born setup None = []
+posts_born setup (Some row) = Born (fact_of setup row) ∷ []
+
+-- the row that is made, if the template is known
+abbrev pub row_made : Setup → State → ℕ → Point → ℕ → Option Row
+row_made setup state number p owner = option_map (λ (template : Template). new_row state.next number p owner template) (slice_get setup.templates number)
+
+-- the notes of a change, in order: where a row leaves, those who aimed at it are let go first
+abbrev pub posts : Setup → State → Change → List Note
+posts setup state (change.Move id p) = posts_on (row_of state id) (λ (row : Row). Moved id row.at p ∷ [])
+posts setup state (change.Motion id motion) = []
+posts setup state (change.Attack id aim) = posts_on (row_of state id) (λ (row : Row). Aimed id (target_of row) aim.target ∷ [])
+posts setup state (change.Health id health) = []
+posts setup state (change.Owner id owner) = posts_on (row_of state id) (λ (row : Row). Owned id row.owner owner ∷ [])
+posts setup state (change.Remove id) = map (λ watcher. Aimed watcher id 0) (watchers state id) ++ posts_on (row_of state id)
+    (λ (row : Row). Gone (fact_of setup row) ∷ [])
+posts setup state (change.Create number p owner) = posts_born setup (row_made setup state number p owner)
+posts setup state (change.Word word) = []
+posts setup state change.Tick = []

@@ -1,7 +1,7 @@
 //! The questions that systems are asked, and what they answer.
 
 ghost use Rattle.std.specs.Prelude.{◌≡◌};
-ghost use Rattle.sim_system.specs.Answers.{kind_for};
+ghost use Rattle.sim_system.specs.Meanings.{kind_for};
 
 use crate::{Kind, Way};
 use sim_base::{Cell, Fixed, Ids, Point, Rect};

@@ -1,9 +1,9 @@
 //! The calls of a system in a box. A caller proves what it says of them by the contracts here, which are those of
 //! `System` with the box for the system.
 
-ghost use Rattle.{sim_base.specs.Limits.IsLand, sim_system.specs.Ranges.AreInRange};
-ghost use Rattle.std.specs.Prelude.{◌≡◌, IfOk, OnOk, OnErr, IsOk};
+ghost use Rattle.std.specs.Prelude.{IfOk, IsOk, OnErr, OnOk, ◌≡◌};
 ghost use Rattle.sim_system.specs.Meanings.{built, cleared, counted, IsAnswer, MayAnswer, MayHear, NeedsNoMemory, told};
+ghost use Rattle.{sim_base.specs.Limits.IsLand, sim_system.specs.Notes.AreInRange};
 
 use crate::{Answer, Ask, Fact, Note, System};
 use sim_base::{Land, OutOfMemory};

@@ -1,8 +1,8 @@
 //! What each system can do.
 
-ghost use Rattle.{sim_base.specs.Limits.IsLand, sim_system.specs.Ranges.AreInRange};
-ghost use Rattle.std.specs.Prelude.{◌≡◌, IfOk, OnOk, OnErr, IsOk};
+ghost use Rattle.std.specs.Prelude.{IfOk, IsOk, OnErr, OnOk, ◌≡◌};
 ghost use Rattle.sim_system.specs.Meanings.{built, cleared, counted, IsAnswer, MayAnswer, MayHear, Meaning, NeedsNoMemory, told};
+ghost use Rattle.{sim_base.specs.Limits.IsLand, sim_system.specs.Notes.AreInRange};
 
 use crate::{Answer, Ask, Fact, Kind, Note};
 use sim_base::{Land, OutOfMemory};

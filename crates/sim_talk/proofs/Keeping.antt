@@ -1,8 +1,7 @@
 -- What is written of the texts that were kept, and what is still kept.
-use Rattle.{sim_store.specs.declared.fault.Failed.Failed, sim_talk.proofs.Talking.Appends-trans}
-use Rattle.sim_talk.specs.LineTalk.{SettlesOut, TellsOut}
-use Rattle.std.specs.{Io.KnownBytes.Appends, Prelude.⊤}
-use Rattle.std.proofs.Common.{◌≡◌, ℕ, suc, List, [], ◌∷◌, ◌++◌, take, Ok, Err, Option, Result, refl, ap, append_assoc, subst, sym, ◌∙◌}
+use Rattle.std.proofs.Common.{[], ap, append_assoc, Err, List, Ok, Option, refl, Result, subst, suc, sym, take, ℕ, ◌++◌, ◌∙◌, ◌∷◌, ◌≡◌}
+use Rattle.{sim_store.specs.declared.fault.Failed.Failed, sim_talk.proofs.Talking.Appends-trans, sim_talk.specs.LineTalk.SettlesOut}
+use Rattle.{sim_talk.specs.LineTalk.TellsOut, std.specs.Io.KnownBytes.Appends, std.specs.Prelude.⊤}
 
 -- all of what is kept with a beginning of a text behind it is a beginning of both
 beyond : (part : ℕ) (kept text : List ℕ) → (k : ℕ) × (kept ++ take part text ≡ take k (kept ++ text))

@@ -1,7 +1,5 @@
 pub mod Hearing
 pub mod Keeping
-pub mod Piping
-pub mod Pouring
+pub mod Talking
 pub mod Prompting
 pub mod Reading
-pub mod Talking

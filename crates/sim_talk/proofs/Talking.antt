@@ -1,14 +1,15 @@
 -- What passed, and then what passed behind it; and one line more is answered behind those that were.
-use Rattle.sim_store.specs.{Counts.raised, Counts.Rose, declared.fault.Failed.Failed}
-use Rattle.sim_talk.specs.Dialogues.{after_lines, amid_answer, answer_part, AnswersLines, before_line, Causes, Converses, dialogue, EndsAs, first_part, IsAll}
-use Rattle.sim_talk.specs.Dialogues.{IsCutOff, IsUntold, last_part, no_answer, no_first, no_last, no_line, Speaks, talk_so_far, TellsText}
-use Rattle.sim_talk.specs.Lines.{feed, IsCause, ReadCounts}
-use Rattle.sim_talk.specs.Talks.{Extends, Grows, HasLost, heard, heard_bytes, Hears, History, IsBeginning, Loses, Misses, part_of, Passed, Says, Tells, told}
-use Rattle.sim_talk.specs.{Talks.told_bytes, Talks.Writes, Talks.WritesAll, declared.fault.HearFault.HearFault, declared.fault.TalkFault.TalkFault}
-use Rattle.std.proofs.Common.{[], ◌++◌, ◌-◌, ◌<◌, ◌^◌, ◌∙◌, ◌∷◌, ◌≡◌, ap, append-nil, append_assoc, arith, Err, inl, inr, length, List, None, Ok, Option, refl}
-use Rattle.std.proofs.{Common.Result, Common.Some, Common.subst, Common.sym, Common.take, Common.ℕ, Math.Seq.take-length, Math.Seq.take-nil}
-use Rattle.std.specs.{Io.KnownBytes.Appends, Io.KnownBytes.Consumes, Io.KnownBytes.IsAtEnd, Prelude.⊤}
 use Rattle.sim_talk.specs.declared.fault.TalkFault.TheVariants as ends
+use Rattle.sim_talk.specs.Talks as talks
+use Rattle.sim_store.specs.{Shelf.Rose, Shelf.raised, declared.fault.Failed.Failed}
+use Rattle.sim_talk.specs.Dialogues.{IsCutOff, IsUntold, Speaks, TellsText, last_part, no_answer, no_first, no_last, no_line, talk_so_far}
+use Rattle.sim_talk.specs.Dialogues.{after_lines, amid_answer, answer_part, AnswersLines, before_line, Causes, Converses, dialogue, EndsAs, first_part, IsAll}
+use Rattle.sim_talk.specs.Talks.{Extends, Grows, HasLost, heard, heard_bytes, Hears, History, IsBeginning, Loses, Misses, part_of, Passed, Says, Tells, told}
+use Rattle.sim_talk.specs.{LineTalk.TellCounts, LineTalk.TellsOut, LineTalk.piped, Lines.IsCause, Lines.MissesOf, Lines.ReadCounts, Lines.feed, Talks.Writes}
+use Rattle.sim_talk.specs.{Talks.WritesAll, Talks.told_bytes, declared.fault.HearFault.HearFault, declared.fault.TalkFault.TalkFault}
+use Rattle.std.proofs.Common.{[], ap, append-nil, append_assoc, arith, Err, inl, inr, length, List, None, Ok, Option, refl, Result, Some, subst, sym, take, ℕ}
+use Rattle.std.proofs.{Common.◌++◌, Common.◌-◌, Common.◌<◌, Common.◌^◌, Common.◌∙◌, Common.◌∷◌, Common.◌≡◌, Math.Seq.take-length, Math.Seq.take-nil}
+use Rattle.std.specs.{Io.KnownBytes.Appends, Io.KnownBytes.Consumes, Io.KnownBytes.IsAtEnd, Io.KnownBytes.prepend_known, Prelude.⊤}
 
 -- ---- the parts of a history
 
@@ -394,4 +395,64 @@ told_and_lost failed text a b c one lost = (
   told text ∷ [],
   subst (λ (t : List ℕ). IsBeginning text (told t ∷ [])) (take-length text) (part_of (length text)),
   (b, one, lost),
+)
+
+-- What a talk over an input and a sink tells of what it heard and told.
+
+-- a cause that the bytes show is one where they are told
+cause_told : (most : ℕ) (fault : HearFault) (a b : Option (List ℕ)) → MissesOf most fault a b → IsCause most fault a b
+cause_told most fault None b missed = tt
+cause_told most fault (Some bytes) b missed = missed
+
+-- what a talk with these bytes tells
+abbrev pub here : Option (List ℕ) → Option (List ℕ) → List ℕ → ℕ → ℕ → ℕ → History
+here coming written kept most unread unwritten =
+    record { passed = None; coming = coming; written = written; kept = kept; longest = most; unread = unread; unwritten = unwritten }
+
+-- what the sink holds and what is kept stays so
+pub says_on : (bytes : List ℕ) (old mid new : History) → Says bytes old mid → new.written ≡ mid.written → new.kept ≡ mid.kept → Says bytes old new
+says_on bytes old mid new was same kept = record {
+  now = was.now;
+  written = subst (λ (o : Option (List ℕ)). Appends old.written o was.now) (sym same) was.written;
+  rest = subst (λ (l : List ℕ). old.kept ++ bytes ≡ was.now ++ l) (sym kept) was.rest;
+}
+
+-- no line was heard
+pub misses_piped : (most : ℕ) (fault : HearFault) (coming coming' written written' : Option (List ℕ)) (kept kept' : List ℕ)
+    (most' read read' wrote wrote' : ℕ)
+    → MissesOf most fault coming coming'
+    → Says [] (here coming written kept most read wrote) (here coming' written' kept' most' read' wrote') → ReadCounts (Err fault) read read' → wrote' ≡ wrote
+    → Misses fault (here coming written kept most read wrote) (here coming' written' kept' most' read' wrote')
+misses_piped most fault coming coming' written written' kept kept' most' read read' wrote wrote' was says counted unfailed =
+    record { passed = tt; cause = cause_told most fault coming coming' was; written = says; read = counted; wrote = unfailed }
+
+-- what was told
+pub tells_piped : (result : Result ⊤ Failed) (text ahead : List ℕ) (left told told' : Option (List ℕ)) (kept kept' : List ℕ) (most read wrote wrote' : ℕ)
+    → TellsOut result text kept kept' told told' → TellCounts result wrote wrote'
+    → Tells result text (piped ahead left told kept most read wrote) (piped ahead left told' kept' most read wrote')
+tells_piped (Ok done) text ahead left told told' kept kept' most read wrote wrote' was counted = record {
+  passed = tt;
+  taken = Consumes-nothing (prepend_known ahead left);
+  written = subst (λ (l : List ℕ). Says l (piped ahead left told kept most read wrote) (piped ahead left told' kept' most read wrote')) (sym (append-nil text))
+      (record { now = was.0; written = was.1; rest = was.2 });
+  longest = refl;
+  read = refl;
+  wrote = counted;
+}
+tells_piped (Err failed) text ahead left told told' kept kept' most read wrote wrote' was counted = (
+  talks.told text ∷ [],
+  subst (λ (t : List ℕ). IsBeginning text (talks.told t ∷ [])) (take-length text) (part_of (length text)),
+  (
+    piped ahead left told (kept ++ text) most read wrote,
+    record {
+      passed = tt;
+      taken = Consumes-nothing (prepend_known ahead left);
+      written = subst (λ (l : List ℕ). Says l (piped ahead left told kept most read wrote) (piped ahead left told (kept ++ text) most read wrote))
+          (sym (append-nil text)) (record { now = []; written = Appends-nothing told told refl; rest = refl });
+      longest = refl;
+      read = refl;
+      wrote = refl;
+    },
+    (was.0, record { passed = refl; coming = refl; written = was.1; kept = was.2; longest = refl; read = refl; wrote = counted }),
+  ),
 )

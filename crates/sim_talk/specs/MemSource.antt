@@ -1,6 +1,6 @@
 -- What is to come of an input in memory, and what it counts.
-use Rattle.{sim_talk.specs.declared.mem_source.MemSource.MemSource, std.specs.Prelude.ℕ, std.specs.Prelude.Bool, std.specs.Prelude.List, std.specs.Prelude.drop}
-use Rattle.sim_store.specs.Calls.{calls_in, is_next_listed, listed_in}
+use Rattle.sim_store.specs.Shelf.{calls_in, is_next_listed, listed_in}
+use Rattle.{sim_talk.specs.declared.mem_source.MemSource.MemSource, std.specs.Prelude.Bool, std.specs.Prelude.List, std.specs.Prelude.drop, std.specs.Prelude.ℕ}
 
 -- the bytes that were not read yet
 abbrev pub bytes_to_come : MemSource → List ℕ

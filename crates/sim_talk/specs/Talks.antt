@@ -1,11 +1,11 @@
 -- What passes in a talk: lines that are heard and texts that are told. A talk tells of it what it knows: one in memory the whole
 -- history, so that it says what had been told when a line was asked for, and one over an input and a sink their bytes. What was told may
 -- be kept for a while before it is written. Each talk counts what failed, so that a fault has its cause.
-use Rattle.std.specs.{Io.KnownBytes.Appends, Io.KnownBytes.Consumes, Io.KnownBytes.IsAtEnd}
-use Rattle.std.specs.Prelude.{◌≡◌, ℕ, Bool, true, false, List, [], ◌∷◌, ◌++◌, take, ⊤, Some, None, Ok, Err, Option, Result}
-use Rattle.sim_talk.specs.{Lines.feed, Lines.IsCause, Lines.ReadCounts, declared.fault.HearFault.HearFault, declared.fault.TalkFault.TalkFault}
-use Rattle.sim_store.specs.{Counts.raised, Counts.Rose, declared.fault.Failed.Failed}
 use Rattle.sim_talk.specs.declared.fault.TalkFault.TheVariants as ends
+use Rattle.sim_store.specs.{Shelf.Rose, Shelf.raised, declared.fault.Failed.Failed}
+use Rattle.sim_talk.specs.{Lines.IsCause, Lines.ReadCounts, Lines.feed, declared.fault.HearFault.HearFault, declared.fault.TalkFault.TalkFault}
+use Rattle.std.specs.Io.KnownBytes.{Appends, Consumes, IsAtEnd}
+use Rattle.std.specs.Prelude.{[], Bool, Err, false, List, None, Ok, Option, Result, Some, take, true, ℕ, ⊤, ◌++◌, ◌∷◌, ◌≡◌}
 
 -- a line that was heard, or a text that was told
 pub data Passed : Type 0 where

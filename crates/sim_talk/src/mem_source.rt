@@ -1,8 +1,8 @@
 //! An input in memory. Whoever wants to talk to the program without a terminal, tests above all, hands it in: its bytes come in
 //! pieces of any size, and its list of calls makes any read fail.
 
-ghost use Rattle.sim_store.specs.{Counts.raised, Pieces.Moves, Sink.SinkCounts};
-ghost use Rattle.std.specs.Prelude.{◌≡◌, ◌≤◌, min, ◌↔◌, [], ◌∷◌, ◌++◌, length, IfOk, OnOk, OnErr, IsOk, IsFalse, Some, vec_len};
+ghost use Rattle.std.specs.Prelude.{[], IfOk, IsFalse, IsOk, length, min, OnErr, OnOk, Some, vec_len, ◌++◌, ◌↔◌, ◌∷◌, ◌≡◌, ◌≤◌};
+ghost use Rattle.sim_store.specs.{Pieces.Moves, Shelf.raised, Sink.SinkCounts};
 
 use crate::source::Source;
 use sim_base::OutOfMemory;

@@ -1,10 +1,10 @@
 -- Holders are found anew, cell by cell and row by row.
-use Rattle.sim_territory.proofs.{Holding.holder_by-same, Moving.size-shape, Shares.far-east, Shares.far-north, Shares.left_out, Shares.share-weak}
-use Rattle.sim_territory.proofs.Common.{cases_lt, Cell, coming, get_or-set_other, get_or-set_same, GivesNoneAt, GivesNothing, Gone, holder_at, holder_by, inl}
-use Rattle.sim_territory.proofs.Common.{inr, IsBuildingOf, IsFoundOr, IsHeldRight, IsInBlock, IsOnGround, IsPlaceIn, IsShifted, leaving, length-set, Mark}
-use Rattle.sim_territory.proofs.Common.{mark_in, place-below, place_of, places-apart, same_or_not, Setup, share, Shift, Size, size_in, SpansNear, strength_of}
-use Rattle.sim_territory.proofs.Common.{subst, sum_at, Sums, sym, ◌∙◌}
-use Rattle.sim_territory.proofs.Common.{◌≡◌, ℕ, ◌+◌, ◌*◌, ◌<◌, ◌≤◌, ◌⊎◌, List, length, set, refl, ap, AreFound, AreFoundNear, AreHolders, arith, Born, Building}
+use Rattle.sim_territory.proofs.Common.{IsInBlock, IsOnGround, IsPlaceIn, IsShifted, leaving, length, length-set, List, Mark, mark_in, place-below, place_of}
+use Rattle.sim_territory.proofs.Common.{ap, AreFound, AreFoundNear, AreHolders, arith, Born, Building, cases_lt, Cell, coming, get_or-set_other}
+use Rattle.sim_territory.proofs.Common.{get_or-set_same, GivesNoneAt, GivesNothing, Gone, holder_at, holder_by, inl, inr, IsBuildingOf, IsFoundOr, IsHeldRight}
+use Rattle.sim_territory.proofs.Common.{places-apart, refl, same_or_not, set, Setup, share, Shift, Size, size_in, SpansNear, strength_of, subst, sum_at, Sums}
+use Rattle.sim_territory.proofs.Common.{sym, ℕ, ◌*◌, ◌+◌, ◌<◌, ◌∙◌, ◌≡◌, ◌≤◌, ◌⊎◌}
+use Rattle.sim_territory.proofs.{Holding.holder_by-same, Moving.far-east, Moving.far-north, Moving.left_out, Moving.share-weak, Moving.size-shape}
 
 pub found_none : (sums : Sums) (columns rows : ℕ × ℕ) (holders : List ℕ) → ((c : Cell) → IsInBlock columns rows c → ⊥)
     → AreFound sums columns rows holders holders

@@ -1,8 +1,8 @@
 -- A building comes or goes at one cell more of a row, where the player's influence stands at a place behind the row's first.
-use Rattle.sim_territory.proofs.{Common.SumsMove, Common.sym, Common.◌∙◌, SumPlaces.set_summed, SumPlaces.sum_place-below}
-use Rattle.sim_territory.proofs.Common.{in_part, IsPlaceIn, MayMove, MaySumsMove, Moves, share_where, Size, size_in, strength_of, subst, sum_place, Sums}
-use Rattle.sim_territory.proofs.Common.{◌≡◌, ℕ, ◌+◌, ◌-◌, ◌*◌, ◌<◌, ◌≤◌, min, max, Bool, length, get_or, set, abs_diff, ap, arith, Building, Cell, HasShapeOf}
-use Rattle.sim_territory.proofs.Moving.{cell_may, cell_moves, part_may, part_moves, place-later, size-shape}
+use Rattle.sim_territory.proofs.Common.{abs_diff, ap, arith, Bool, Building, Cell, get_or, HasShapeOf, in_part, IsPlaceIn, length, max, MayMove, MaySumsMove}
+use Rattle.sim_territory.proofs.Common.{min, Moves, set, share_where, Size, size_in, strength_of, subst, sum_place, Sums, SumsMove, sym, ℕ, ◌*◌, ◌+◌, ◌-◌, ◌<◌}
+use Rattle.sim_territory.proofs.Moving.{part_may, part_moves, place-later, size-shape}
+use Rattle.sim_territory.proofs.{Common.◌∙◌, Common.◌≡◌, Common.◌≤◌, Keeping.set_summed, Keeping.sum_place-below, Moving.cell_may, Moving.cell_moves}
 
 abbrev pub cell_on : ℕ → ℕ → Cell
 cell_on x z = record { x = x; z = z }

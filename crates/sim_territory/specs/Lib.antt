@@ -1,11 +1,7 @@
 pub mod Common
 pub mod Influence
 pub mod Holders
-pub mod Rooted
 pub mod Realms
 pub mod Spans
 pub mod Buildings
 pub mod Tables
-pub mod Floods
-pub mod Keeping
-pub mod Found

@@ -1,6 +1,5 @@
 -- Spans of columns and of rows.
-use Rattle.std.specs.Prelude.{ℕ, ◌*◌, ◌<◌, ◌≤◌}
-use Rattle.sim_territory.specs.Common.{abs_diff}
+use Rattle.{sim_territory.specs.Common.abs_diff, std.specs.Prelude.ℕ, std.specs.Prelude.◌*◌, std.specs.Prelude.◌<◌, std.specs.Prelude.◌≤◌}
 
 -- the numbers from the first to before the end have all that are nearer than a reach, at 10 a cell
 abbrev pub SpansNear : ℕ → ℕ → ℕ → ℕ × ℕ → Type 0

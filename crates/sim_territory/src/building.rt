@@ -34,7 +34,7 @@ impl Building {
 
     /// Its strength at a cell that is so many columns along from its own, and so many rows across. The octile distance is taken
     /// as the greater of two sums, which needs one comparison.
-    #[tactic(auto, using(crate::proofs::Shares::octile_is))]
+    #[tactic(auto, using(crate::proofs::Moving::octile_is))]
     pub fn strength(&self, along: u32, across: u32) -> u32
         requires along { along < 2 ^ 16 }
         requires across { across < 2 ^ 16 }

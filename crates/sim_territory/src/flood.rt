@@ -19,9 +19,9 @@ pub struct Flood {
 }
 
 impl Flood {
-    ghost use Rattle.std.specs.Prelude.{◌≡◌, ◌*◌, ◌<◌, ◌≤◌, false, [], length, replicate, IfOk, OnOk};
+    ghost use Rattle.std.specs.Prelude.{[], false, IfOk, length, OnOk, replicate, ◌*◌, ◌<◌, ◌≡◌, ◌≤◌};
     ghost use Rattle.sim_territory.specs.Common.{cell_at as cell_at_numbers, IsOnGround, neighbour, place_of};
-    ghost use Rattle.sim_territory.specs.Floods.{AllWait, Fills, ground_of, ground_size, IsHeldCell, Spreads, StepsOn, Wets};
+    ghost use Rattle.sim_territory.specs.Holders.{AllWait, Fills, ground_of, ground_size, IsHeldCell, Spreads, StepsOn, Wets};
 
     /// It has come to no cell yet.
     pub fn new(alloc: Global, width: u16, depth: u16) -> Result<Flood, OutOfMemory>

@@ -2,8 +2,8 @@
 //! comes or goes changes the influences within its reach. After a few shifts the holders are found anew there, after many
 //! everywhere, once.
 
-ghost use Rattle.std.specs.Prelude.{◌≡◌, ◌*◌, replicate, IfOk};
-ghost use Rattle.sim_territory.specs.Keeping.{AreHolders};
+ghost use Rattle.std.specs.Prelude.{IfOk, replicate, ◌*◌, ◌≡◌};
+ghost use Rattle.sim_territory.specs.Holders.{AreHolders};
 
 use crate::changes::mark_in;
 use crate::sums::Sums;

@@ -1,7 +1,7 @@
 //! A realm: who holds which ground after the states that it followed, and which of it is rooted.
 
-ghost use Rattle.std.specs.Prelude.{◌≡◌, ◌≤◌, [], IfOk, IsOk, OnOk, OnErr};
-ghost use Rattle.sim_territory.specs.{Common.IsSetup, Common.IsValid, Realms.holders_in, Realms.influences_in, Realms.realm_of, Rooted.AreRooted};
+ghost use Rattle.std.specs.Prelude.{[], IfOk, IsOk, OnErr, OnOk, ◌≡◌, ◌≤◌};
+ghost use Rattle.sim_territory.specs.{Common.IsSetup, Common.IsValid, Holders.AreRooted, Realms.holders_in, Realms.influences_in, Realms.realm_of};
 
 use crate::flood::Flood;
 use crate::influences::Influences;
@@ -25,7 +25,7 @@ pub struct Realm<'a> {
 }
 
 impl<'a> Model for Realm<'a> {
-    ghost use Rattle.sim_territory.specs.{Keeping.AreInfluences, Realms.RealmOf};
+    ghost use Rattle.sim_territory.specs.{Holders.AreInfluences, Realms.RealmOf};
 
     ghost Value = { RealmOf };
 

@@ -1,8 +1,8 @@
 //! The roots: obstructions of players that can train, on a cell that their owner holds. A flood begins there.
 
-ghost use Rattle.std.specs.Prelude.{◌≡◌, [], OnOk};
-ghost use Rattle.sim_territory.specs.{Floods.ground_size, Floods.IsWetAt, Holders.holder_by};
-ghost use Rattle.sim_territory.specs.{Keeping.AreInfluences, Rooted.is_root_under, Rooted.roots_of, Tables.IsMarkIn, Tables.size_in, Tables.sum_at};
+ghost use Rattle.std.specs.Prelude.{[], OnOk, ◌≡◌};
+ghost use Rattle.sim_territory.specs.Holders.{AreInfluences, ground_size, holder_by, is_root_under, IsWetAt, roots_of};
+ghost use Rattle.sim_territory.specs.Tables.{IsMarkIn, size_in, sum_at};
 
 use crate::flood::Flood;
 use crate::influences::Influences;

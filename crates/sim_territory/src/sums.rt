@@ -22,11 +22,11 @@ pub struct Sums {
 }
 
 impl Sums {
-    ghost use Rattle.std.specs.Prelude.{◌≡◌, ◌+◌, ◌-◌, ◌*◌, ◌<◌, ◌≤◌, replicate, IfOk, ◌==◌, slice_range};
-    ghost use Rattle.sim_territory.specs.{Buildings.share_of, Found.AreFound, Found.AreFoundNear, Found.IsBlockOf, Holders.holder_by, Keeping.AreHolders};
-    ghost use Rattle.sim_territory.specs.{Common.IsOnGround, Common.place_of, Tables.share_by, Tables.share_where, Tables.size_in, Tables.sum_at};
+    ghost use Rattle.std.specs.Prelude.{IfOk, replicate, slice_range, ◌*◌, ◌+◌, ◌-◌, ◌<◌, ◌==◌, ◌≡◌, ◌≤◌};
     ghost use Rattle.sim_territory.specs.Tables.{AreShifted, FitShifts, FitsShift, in_part, IsEntityOf, IsPlaceIn, IsShifted, MayShiftRow, MaySumsMove};
-    ghost use Rattle.sim_territory.specs.Tables.{sum_place, SumsMove};
+    ghost use Rattle.sim_territory.specs.Tables.{sum_at, sum_place};
+    ghost use Rattle.sim_territory.specs.{Buildings.share_of, Common.IsOnGround, Common.place_of, Holders.AreFound, Holders.AreFoundNear, Holders.AreHolders};
+    ghost use Rattle.sim_territory.specs.{Holders.IsBlockOf, Holders.holder_by, Tables.SumsMove, Tables.share_by, Tables.share_where, Tables.size_in};
 
     /// Nobody has influence anywhere.
     pub fn new(alloc: Global, width: u16, depth: u16, players: u8) -> Result<Sums, OutOfMemory>

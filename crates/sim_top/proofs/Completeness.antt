@@ -1,16 +1,20 @@
 -- Where each file that is read is good and no fault was counted, a run came to its end or there was no memory.
-use Rattle.{sim_codec.proofs.Standing.no_fault, sim_codec.specs.Loading.StandsFor, sim_setup.proofs.SetupLimits.setup_of-id}
-use Rattle.sim_top.proofs.Common.{◌∙◌, ◌≡◌, ◌≤◌, ◌⊎◌, after, ap, Apart, apart_by, arith, Asked, asked_by, bytes_in, Causes, compare_by, Counts, difference_of}
-use Rattle.sim_top.proofs.Common.{Differs, digests_after, Done, economy_in, Err, File, first_apart, HoldsState, inl, inr, IsFaultless, IsFinal, IsLogged}
-use Rattle.sim_top.proofs.Common.{IsOutcomeOf, IsReady, IsRealmOutcome, IsResighted, IsStored, le-ltb, length, List, Log, log_by, map_at, match_in, Meets, None}
-use Rattle.sim_top.proofs.Common.{NoSuchTurn, Ok, Option, Outcome, own_turns, Place, printed, raised, RealmAt, refl, rejoin_outcome, Result, Scene, schedule_in}
-use Rattle.sim_top.proofs.Common.{session_match_in, Setup, setup_by, setup_of, sight_outcome, Some, State, state_by, StateFault, Status, steps_in}
-use Rattle.sim_top.proofs.Common.{store_outcome, subst, sym, Then, ThenLog, ThenStored, to_check, to_compare, to_film, to_log, to_parts, to_play, to_realm}
-use Rattle.sim_top.proofs.Common.{to_record, to_rejoin, to_resight, to_resume, to_serve, to_session, to_show, to_sight, to_stock, to_store, to_try, trial_match}
-use Rattle.sim_top.{proofs.Common.turn_by, proofs.Common.Usage, proofs.Common.WriteFault, proofs.Common.ℕ, proofs.Playing.turn_there, specs.Outcome.match_by}
-use Rattle.sim_top.specs.{Readiness.HoldsLog, declared.status.Status.TheVariants.EconomyRefused, declared.status.Status.TheVariants.ListRefused}
-use Rattle.sim_top.specs.declared.status.Status.TheVariants.{LogRefused, MatchRefused, NoFile, OutOfMemory, ReadFault, SightRefused, StateRefused, TooLong}
 use Rattle.sim_codec.specs.declared.fault.StateFault.TheVariants as stored
+use Rattle.sim_territory.proofs.{Holding.holder_by-holds, Keeping.length-mapped, Keeping.mapped_at}
+use Rattle.sim_territory.specs.{Holders.IsHolder, Holders.holder, Influence.influence, Realms.holders_in}
+use Rattle.sim_top.proofs.Common.{IsFaultless, IsFinal, IsLogged, IsOutcomeOf, IsReady, IsRealmOutcome, IsResighted, IsStored, le-ltb, length, List, Log}
+use Rattle.sim_top.proofs.Common.{Territories, Then, ThenLog, ThenStored, to_check, to_compare, to_film, to_log, to_parts, to_play, to_realm, to_record}
+use Rattle.sim_top.proofs.Common.{after, ap, Apart, apart_by, Appends, arith, Asked, asked_by, bytes_in, cases_lt, Causes, compare_by, cond-true, Counts}
+use Rattle.sim_top.proofs.Common.{difference_of, Differs, digests_after, Done, economy_in, Err, File, first_apart, HasEnded, HoldsState, IfOk, inl, inr}
+use Rattle.sim_top.proofs.Common.{log_by, lt-ltb, ltb, map_at, match_in, Meets, None, NoSuchTurn, OfRealm, Ok, Option, Outcome, own_turns, Place, printed}
+use Rattle.sim_top.proofs.Common.{raised, realm_of, RealmAt, refl, refusal_text, rejoin_outcome, Result, Scene, schedule_in, session_match_in, Setup, setup_by}
+use Rattle.sim_top.proofs.Common.{setup_of, sight_outcome, Some, State, state_by, StateFault, Status, steps_in, store_outcome, subst, sym, TellsRealm}
+use Rattle.sim_top.proofs.Common.{to_rejoin, to_resight, to_resume, to_serve, to_session, to_show, to_sight, to_stock, to_store, to_try, trial_match, Turn}
+use Rattle.sim_top.proofs.Common.{turn_by, Usage, WriteFault, ℕ, ◌<◌, ◌∙◌, ◌≡◌, ◌≤◌, ◌⊎◌}
+use Rattle.sim_top.specs.declared.status.Status.TheVariants.{EconomyRefused, ListRefused, LogRefused, MatchRefused, NoFile, OutOfMemory, ReadFault}
+use Rattle.sim_top.specs.{Headline.marks_at, Outcome.match_by, Reads.HoldsLog, declared.status.Status.TheVariants.SightRefused}
+use Rattle.sim_top.{proofs.Playing.turn_there, specs.declared.status.Status.TheVariants.StateRefused, specs.declared.status.Status.TheVariants.TooLong}
+use Rattle.{sim_base.specs.Rows.size_of, sim_codec.proofs.Standing.no_fault, sim_codec.specs.Loading.StandsFor, sim_setup.proofs.LandLimits.setup_of-id}
 
 -- an outcome with which a command comes to its end
 abbrev Ends : Outcome → Type 0
@@ -189,3 +193,53 @@ final LogRefused words files before now (wanted, is, status, done) caused ready 
     absurd (no_end wanted LogRefused status (λ e. cc) (λ e. cc) (ready_ends files (asked_by words) wanted ready is))
 final EconomyRefused words files before now (wanted, is, status, done) caused ready faultless =
     absurd (no_end wanted EconomyRefused status (λ e. cc) (λ e. cc) (ready_ends files (asked_by words) wanted ready is))
+
+-- What the sink was told of territories, in the words of the rules.
+
+-- the text that tells a realm
+told_so : (setup : Setup) (turn : ℕ) (told told' : Option (List ℕ)) (text : List ℕ) → TellsRealm (realm_of setup (after setup (own_turns setup 0 turn))) text
+    → Appends told told' text → Territories setup turn told told'
+told_so setup turn told told' text tells appends =
+    let marks = marks_at setup turn in
+    let size = size_of setup.land in
+    record {
+      holders = holders_in (realm_of setup (after setup (own_turns setup 0 turn)));
+      rooted = tells.rooted;
+      text = subst (Appends told told') tells.lines appends;
+      full = length-mapped (holder setup marks) size;
+      held = λ c on. subst (IsHolder setup.players (λ player. influence setup marks player c)) (sym (mapped_at (holder setup marks) size c 0 on))
+          (holder_by-holds setup.players (λ player. influence setup marks player c));
+      joined = tells.are;
+    }
+
+-- the text of an outcome with which a command came to its end
+of_outcome : (files : List File) (asked : Option Asked) (wanted : Outcome) (told told' : Option (List ℕ)) → IsOutcomeOf files asked wanted
+    → HasEnded wanted.status → Appends told told' wanted.text
+    → OfRealm files asked (λ setup turn. Territories setup turn told told')
+of_outcome files (Some (to_realm game turn)) wanted told told' is ended text = by (match_in files game) is
+  where
+    at_turn : (setup : Setup) → RealmAt turn setup wanted → (setup.turns < turn) ⊎ (turn ≤ setup.turns) → Territories setup turn told told'
+    at_turn setup is (inl past) =
+        let none : wanted ≡ printed NoSuchTurn (refusal_text (Turn turn setup.turns)) =
+        subst (λ (r : Result ℕ Outcome). Then r (λ turn. IsRealmOutcome setup (after setup (own_turns setup 0 turn))) wanted)
+        (cond-true (ltb setup.turns turn) _ _ (lt-ltb _ _ past)) is in
+        absurd (subst (λ (o : Outcome). HasEnded o.status) none ended)
+    at_turn setup is (inr le) =
+        let realm = after_reading (turn_by setup turn) turn (λ turn. IsRealmOutcome setup (after setup (own_turns setup 0 turn))) wanted
+        (turn_there setup turn le) is in
+        told_so setup turn told told' realm.text realm.tells (subst (λ (o : Outcome). Appends told told' o.text) realm.printed text)
+
+    by : (r : Result Setup Outcome) → Then r (RealmAt turn) wanted → IfOk r (λ setup. Territories setup turn told told')
+    by (Ok setup) is = at_turn setup is (cases_lt setup.turns turn)
+    by (Err ended) is = tt
+of_outcome files other wanted told told' is ended text = tt
+
+-- a run that came to its end told the text of an outcome
+pub territories_told : (status : Status) (words : List (List ℕ)) (files : List File) (before now : Scene) → Meets status words files before now
+    → HasEnded status
+    → OfRealm files (asked_by words) (λ setup turn. Territories setup turn before.told now.told)
+territories_told Done words files before now (wanted, is, status, done) ended = of_outcome files (asked_by words) wanted before.told now.told is
+    (subst HasEnded (sym status) ended) done.text
+territories_told Differs words files before now (wanted, is, status, done) ended = of_outcome files (asked_by words) wanted before.told now.told is
+    (subst HasEnded (sym status) ended) done.text
+territories_told other words files before now h ended = absurd ended

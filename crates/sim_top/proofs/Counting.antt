@@ -1,13 +1,12 @@
 -- What the shelf counted, file by file and over a whole command; and how many bytes a file had that was read.
-use Rattle.{sim_base.specs.Limits.file_limit, std.specs.Prelude.nat_le}
-use Rattle.sim_store.{proofs.Given.after_giving-after_giving, specs.Counts.after_giving, specs.Counts.after_miss, specs.Counts.after_read_fault}
-use Rattle.sim_top.proofs.Common.{IsRefusal, IsUnfound, length_in, ListRefused, LogRefused, MatchRefused, NoFile, OnlyGave, OutOfMemory, raised, ReadFault}
-use Rattle.sim_top.proofs.Common.{arith, bytes_by, bytes_in, CausesOf, Counts, CountsBefore, EconomyRefused, File, file_in, GaveAll, IsOfContent, IsReading}
-use Rattle.sim_top.proofs.Common.{reading_of, Shelved, SightRefused, StateRefused, status_of, Stop, subst, sym, TooLong, ◌∙◌}
-use Rattle.sim_top.proofs.Common.{◌≡◌, ℕ, ◌+◌, ◌<◌, ◌≤◌, Bool, true, false, cond, List, length, IfSome, IfErr, Some, None, Ok, Err, Option, Result, refl, ap}
-use Rattle.sim_top.specs.{Answers.GaveThenFailed, Answers.GaveThenMissed, Commands.HasParsed, Commands.HasRead, Reads.length_of, Stops.ReadsCounting}
-use Rattle.sim_top.specs.{declared.stop.Stop.TheVariants.NoSuchTurn}
 use Rattle.sim_store.specs.declared.fault.StoreFault.TheVariants as store
+use Rattle.sim_top.proofs.Common.{IfErr, IfSome, IsOfContent, IsReading, IsRefusal, IsUnfound, length, length_in, List, ListRefused, LogRefused, MatchRefused}
+use Rattle.sim_top.proofs.Common.{NoFile, None, Ok, OnlyGave, Option, OutOfMemory, raised, ReadFault, reading_of, refl, Result, Shelved, SightRefused, Some}
+use Rattle.sim_top.proofs.Common.{StateRefused, status_of, Stop, subst, sym, TooLong, true, ℕ, ◌+◌, ◌<◌, ◌∙◌, ◌≡◌, ◌≤◌}
+use Rattle.sim_top.proofs.Common.{ap, arith, Bool, bytes_by, bytes_in, CausesOf, cond, Counts, CountsBefore, EconomyRefused, Err, false, File, file_in, GaveAll}
+use Rattle.sim_top.specs.{Commands.HasParsed, Commands.HasRead, Reads.GaveThenFailed, Reads.GaveThenMissed, Reads.length_of, Stops.ReadsCounting}
+use Rattle.{sim_base.specs.Limits.file_limit, sim_store.specs.Shelf.after_giving, sim_store.specs.Shelf.after_miss, std.specs.Prelude.nat_le}
+use Rattle.{sim_store.proofs.Given.after_giving-after_giving, sim_store.specs.Shelf.after_read_fault, sim_top.specs.declared.stop.Stop.TheVariants.NoSuchTurn}
 
 pub gave : (n : ℕ) (old new : Counts) → new ≡ after_giving n old → OnlyGave old new
 gave n old new is =

@@ -3,14 +3,12 @@ pub mod Stopping
 pub mod Finishing
 pub mod Completeness
 pub mod Counting
-pub mod Ending
 pub mod Playing
 pub mod Answering
 pub mod Comparing
 pub mod Preparing
 pub mod Returning
 pub mod Headlines
-pub mod Territories
 pub mod Films
 pub mod Parts
 pub mod Sighting

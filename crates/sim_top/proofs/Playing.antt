@@ -1,10 +1,12 @@
 -- What a command makes of a match that was played.
-use Rattle.{sim_base.specs.Turn.turns_in, sim_base.specs.declared.memory.OutOfMemory.OutOfMemory as NoMemory, std.proofs.Common.zero, std.specs.Prelude.IsErr}
-use Rattle.{sim_laws.proofs.Turning.after_counts_turns, sim_play.specs.Lines.rejoin_text, sim_top.proofs.Stopping.Then-ended, sim_top.proofs.Stopping.Then-read}
-use Rattle.sim_top.proofs.Common.{ap, cond-false, cond-true, Done, false≢true, Global, IsMade, IsMadeAs, IsRealmOutcome, le-ltb, lt-ltb, NoSuchTurn, Outcome}
-use Rattle.sim_top.proofs.Common.{outcome_made, OutOfMemory, own_turns, printed, realm_of, RealmAt, refusal_text, rejoin_outcome, Setup, State, Stop}
-use Rattle.sim_top.proofs.Common.{store_outcome, stored_at, sym, TellsRealm, Turn, turn_by, ◌∙◌}
-use Rattle.sim_top.proofs.Common.{◌≡◌, ℕ, suc, ◌<◌, ◌≤◌, false, ltb, List, IfOk, IfErr, OnOk, OnErr, Ok, Err, string_bytes, Result, String, refl, after, Answer}
+use Rattle.sim_play.specs.Playing as play
+use Rattle.sim_top.proofs.Common.{IsRealmOutcome, le-ltb, List, lt-ltb, ltb, NoSuchTurn, Ok, OnErr, OnOk, Outcome, outcome_made, OutOfMemory, own_turns}
+use Rattle.sim_top.proofs.Common.{after, Answer, ap, AreFed, cond-false, cond-true, Done, Err, false, false≢true, Global, IfErr, IfOk, IsMade, IsMadeAs}
+use Rattle.sim_top.proofs.Common.{printed, realm_of, RealmAt, refl, refusal_text, rejoin_outcome, Result, Setup, State, Stop, store_outcome, stored_at, String}
+use Rattle.sim_top.proofs.Common.{string_bytes, suc, sym, systems_by, TellsRealm, Turn, turn_by, ℕ, ◌<◌, ◌∙◌, ◌≡◌, ◌≤◌}
+use Rattle.{sim_base.specs.Turn.turns_in, sim_base.specs.declared.memory.OutOfMemory.OutOfMemory as NoMemory, sim_laws.proofs.Turning.after_counts_turns}
+use Rattle.{sim_play.specs.Lines.rejoin_text, sim_system.specs.Meanings.Meaning, sim_system.specs.declared.rig.Rig.Rig, sim_top.proofs.Stopping.Then-ended}
+use Rattle.{sim_top.proofs.Stopping.Then-read, sim_top.specs.Stops.HasPlayedBy, std.proofs.Common.zero, std.specs.Prelude.IsErr}
 
 module _ {X : Type 0} (made : Result Answer Stop) (read : Result X NoMemory) (stops : IfErr made (λ stop. stop ≡ OutOfMemory))
     (refused : OnErr read (made ≡ Err OutOfMemory)) where
@@ -16,6 +18,12 @@ module _ {X : Type 0} (made : Result Answer Stop) (read : Result X NoMemory) (st
       by (Ok answer) (Ok x) e h = h
       by (Ok answer) (Err none) e h = absurd (cc)
       by (Err stop) o e h = tt
+
+  -- a rig that had played where it was read has played where it was made
+  pub played_if : {Y : Type 0} {F : Y → Type 0} (meaning : (i : Y) → F i → Meaning) (setup : Setup) (last : State) (old new : Rig Y F)
+      → play.HasPlayedBy meaning setup last read old new → HasPlayedBy meaning setup last made old new
+  played_if meaning setup last old new was =
+      record { fed = made_if (AreFed setup last (systems_by new meaning)) was.fed; kinds = was.kinds; most = was.most }
 
   -- the outcome of what was read is made
   pub is_made : (of : X → Outcome) (wanted : Outcome) → IfOk read (λ x. of x ≡ wanted) → IfOk made (λ answer. IfOk read (λ x. outcome_made answer ≡ of x))

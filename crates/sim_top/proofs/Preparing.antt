@@ -1,12 +1,12 @@
 -- What is made of the words before anything is written: by what their command answers, or by what ended it.
-use Rattle.{sim_base.specs.declared.memory.OutOfMemory.OutOfMemory as NoMemory, std.proofs.Common.IsOk}
-use Rattle.sim_top.proofs.{Answering.has_ended, Counting.nothing_given, Ending.unfound_silent, Finishing.all_told, Finishing.without_memory, Stopping.Told}
-use Rattle.sim_top.proofs.Common.{Counts, CountsBefore, Differs, Done, false≢true, File, file_of, GaveForWords, Global, HasEnded, IsAnswered, IsAnswerTo}
-use Rattle.sim_top.proofs.Common.{IsFinished, IsOutcomeOf, IsSavedAs, IsSettled, IsSilent, LacksFirst, MayEnd, MeetsBefore, OnlyGave, out_of, Outcome}
-use Rattle.sim_top.proofs.Common.{outcome_made, printed, Saved, Shelved, Status, status_of, Stop, Stopped, subst, sym, Usage, usage_text, WriteFault, ◌∙◌}
-use Rattle.sim_top.proofs.Common.{◌≡◌, ℕ, List, [], IfOk, Some, None, Ok, Err, string_bytes, Option, Result, String, option_map, refl, Answer, Asked, asked_by}
-use Rattle.sim_top.specs.{Commands.IsPrepared, Making.SavesIfDone, Reads.LacksMatch, Stops.stop_text, declared.status.Status.TheVariants.OutOfMemory}
 use Rattle.sim_top.specs.declared.stop.Stop.TheVariants as stops
+use Rattle.sim_top.proofs.Common.{HasEnded, IfOk, IsAnswered, IsAnswerTo, IsFinished, IsOutcomeOf, IsSavedAs, IsSettled, IsSilent, LacksFirst, List, MayEnd}
+use Rattle.sim_top.proofs.Common.{MeetsBefore, None, Ok, OnlyGave, Option, option_map, out_of, Outcome, outcome_made, printed, refl, Result, Saved, Shelved}
+use Rattle.sim_top.proofs.Common.{Some, Status, status_of, Stop, Stopped, String, string_bytes, subst, sym, Usage, usage_text, WriteFault, ℕ, ◌∙◌, ◌≡◌}
+use Rattle.sim_top.proofs.Common.{[], Answer, Asked, asked_by, Counts, CountsBefore, Differs, Done, Err, false≢true, File, file_of, GaveForWords, Global}
+use Rattle.sim_top.proofs.{Answering.has_ended, Counting.nothing_given, Finishing.all_told, Finishing.unfound_silent, Finishing.without_memory, Stopping.Told}
+use Rattle.{sim_base.specs.declared.memory.OutOfMemory.OutOfMemory as NoMemory, sim_top.specs.Commands.IsPrepared, sim_top.specs.Making.SavesIfDone}
+use Rattle.{sim_top.specs.Reads.LacksMatch, sim_top.specs.Stops.stop_text, sim_top.specs.declared.status.Status.TheVariants.OutOfMemory, std.proofs.Common.IsOk}
 
 -- ---- a command that has its text
 

@@ -1,18 +1,19 @@
 -- How the rigs of a command come back: as they were, with the first played, with the first two played, and of a session.
-use Rattle.sim_session.{proofs.Starting.built_same, specs.Rigs.AllBuiltAtMost, specs.Rigs.AllStand, specs.Rigs.builds_of, specs.SessionWords.rigs_by}
-use Rattle.sim_system.specs.{Meanings.AreBuiltOnceAtMost, Meanings.Meaning, declared.rig.Rig.Rig}
-use Rattle.sim_top.proofs.Common.{[], ◌<◌, ◌∙◌, ◌∷◌, ◌≡◌, ◌≤◌, All, Answer, ap, AreFed, arith, Asked, bytes_in, drop, end_from, Err, false≢true, File, Global}
-use Rattle.sim_top.proofs.Common.{HasEnded, HaveKinds, IfOk, IfSome, inl, inr, IsHostedBy, IsMade, IsMadeAs, IsSettled, IsSetup, IsState, IsStepList}
-use Rattle.sim_top.proofs.Common.{IsUnplayed, length, List, map, None, OfSession, Ok, OnOk, Option, Outcome, outcome_made, refl, Result, RigsCameBackBy}
-use Rattle.sim_top.proofs.Common.{session_match_in, session_of, Setup, Some, StandForStored, State, Status, status_made, status_of, StepList, steps_in, Stop}
-use Rattle.sim_top.proofs.Common.{subst, suc, sym, Systems, systems_by, to_check, to_compare, to_film, to_log, to_parts, to_play, to_realm, to_record}
-use Rattle.sim_top.proofs.Common.{to_rejoin, to_resight, to_resume, to_serve, to_session, to_show, to_sight, to_stock, to_store, to_try, used, Vec, ℕ}
-use Rattle.sim_top.{proofs.Ending.ended_settled, proofs.Ending.stopped_not_ended, proofs.Ending.unplayed_settled, specs.Hosting.builds_with_log}
-use Rattle.sim_top.specs.{Hosting.IsRecordedBy, Hosting.OfRecord, Returning.AreOfSession, Rigs.AreEightBy, Rigs.clients, Rigs.HasPlayedBy, Rigs.OfFirsts}
-use Rattle.{sim_top.specs.Rigs.RigStands, sim_top.specs.Rigs.SecondStands, std.proofs.Math.ListN.drop_of_length-le, std.proofs.lemmas.List.Elements.All-cons}
-use Rattle.std.{proofs.lemmas.List.Elements.All-head, proofs.lemmas.List.Elements.All-nil, proofs.lemmas.List.Elements.All-tail, specs.Prelude.vec_capacity}
 use Rattle.sim_top.specs.declared.status.Status.TheVariants as status
 use Rattle.sim_top.specs.declared.stop.Stop.TheVariants as stops
+use Rattle.sim_session.{proofs.Stepping.built_same, specs.Going.rigs_by, specs.Laws.AllBuiltAtMost, specs.Laws.AllStand, specs.Laws.builds_of}
+use Rattle.sim_system.specs.{Meanings.AreBuiltOnceAtMost, Meanings.Meaning, declared.rig.Rig.Rig}
+use Rattle.sim_top.proofs.Common.{IfSome, inl, inr, IsHostedBy, IsMade, IsMadeAs, IsSettled, IsSetup, IsState, IsStepList, IsUnplayed, length, List, map, None}
+use Rattle.sim_top.proofs.Common.{OfSession, Ok, OnOk, Option, Outcome, outcome_made, refl, Result, RigsCameBackBy, session_match_in, session_of, Setup, Some}
+use Rattle.sim_top.proofs.Common.{StandForStored, State, Status, status_made, status_of, StepList, steps_in, Stop, subst, suc, sym, Systems, systems_by}
+use Rattle.sim_top.proofs.Common.{[], All, Answer, ap, AreFed, arith, Asked, bytes_in, drop, end_from, Err, false≢true, File, Global, HasEnded, HaveKinds, IfOk}
+use Rattle.sim_top.proofs.Common.{to_check, to_compare, to_film, to_log, to_parts, to_play, to_realm, to_record, to_rejoin, to_resight, to_resume, to_serve}
+use Rattle.sim_top.proofs.Common.{to_session, to_show, to_sight, to_stock, to_store, to_try, used, Vec, ℕ, ◌<◌, ◌∙◌, ◌∷◌, ◌≡◌, ◌≤◌}
+use Rattle.sim_top.proofs.Finishing.{ended_settled, stopped_not_ended, unplayed_settled}
+use Rattle.sim_top.specs.Stops.{OfFirsts, RigStands, SecondStands, clients}
+use Rattle.sim_top.specs.{Outcome.IsRecordedBy, Outcome.OfRecord, Outcome.builds_with_log, Returning.AreOfSession, Stops.AreEightBy, Stops.HasPlayedBy}
+use Rattle.std.proofs.lemmas.List.Elements.{All-cons, All-head, All-nil, All-tail}
+use Rattle.std.{proofs.Math.ListN.drop_of_length-le, specs.Prelude.vec_capacity}
 
 -- ---- by the status
 

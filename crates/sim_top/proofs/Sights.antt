@@ -1,12 +1,12 @@
 -- What the sink was told of what the players see, and the file of explored cells, in the words of the rules.
-use Rattle.{sim_store.specs.declared.fault.StoreFault.StoreFault, sim_top.specs.Sights.Resights, sim_top.specs.Sights.Sights}
-use Rattle.sim_top.proofs.{Common.to_sight, Common.Turn, Common.◌∙◌, Sighting.sight_done, Sighting.taken_is}
-use Rattle.sim_top.proofs.Common.{Setup, sight_outcome, SightFault, State, state_by, StateFault, Status, subst, sym, TellsSights, Then, ThenStored, to_resight}
-use Rattle.sim_top.proofs.Common.{cases_lt, cond-true, Differs, Done, File, file_in, HasEnded, inl, inr, IsDone, IsOutcomeOf, IsResighted, IsStored, lt-ltb}
-use Rattle.sim_top.proofs.Common.{map_at, map_by, match_in, Meets, NoSuchTurn, Outcome, printed, reading_of, refusal_of, refusal_text, resight_text, Scene}
-use Rattle.sim_top.proofs.Common.{◌≡◌, ℕ, ◌<◌, ◌≤◌, ltb, ◌⊎◌, List, IfOk, Some, None, Ok, Err, Option, Result, refl, ap, Asked, asked_by, bytes_by, bytes_in}
 use Rattle.sim_codec.specs.declared.fault.StateFault.TheVariants as stored
 use Rattle.sim_store.specs.declared.fault.StoreFault.TheVariants as store
+use Rattle.sim_top.proofs.Common.{IsDone, IsOutcomeOf, IsResighted, IsStored, List, lt-ltb, ltb, map_at, map_by, match_in, Meets, None, NoSuchTurn, Ok, Option}
+use Rattle.sim_top.proofs.Common.{Outcome, printed, reading_of, refl, refusal_of, refusal_text, resight_text, Result, Scene, Setup, sight_outcome, SightFault}
+use Rattle.sim_top.proofs.Common.{Some, State, state_by, StateFault, Status, subst, sym, TellsSights, Then, ThenStored, to_resight, to_sight, Turn, ℕ, ◌<◌, ◌∙◌}
+use Rattle.sim_top.proofs.Common.{ap, Asked, asked_by, bytes_by, bytes_in, cases_lt, cond-true, Differs, Done, Err, File, file_in, HasEnded, IfOk, inl, inr}
+use Rattle.sim_top.proofs.{Common.◌≡◌, Common.◌≤◌, Common.◌⊎◌, Sighting.sight_done, Sighting.taken_is}
+use Rattle.{sim_store.specs.declared.fault.StoreFault.StoreFault, sim_top.specs.Headline.Resights, sim_top.specs.Headline.Sights}
 
 -- an outcome that ends a command before is none with which it came to its end
 pub no_end : (wanted other : Outcome) → wanted ≡ other → HasEnded wanted.status → HasEnded other.status

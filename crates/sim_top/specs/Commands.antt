@@ -1,12 +1,13 @@
 -- What is made of the words before anything is written, what a command answers to what is asked, and what reading a file says of the
 -- shelf: the facts of each call by name.
-use Rattle.std.specs.Prelude.{◌≡◌, ℕ, ◌≢◌, List, [], IfSome, IfOk, IfErr, Some, None, Option, Result, option_map}
-use Rattle.sim_top.specs.{Answers.CountsBefore, Answers.IsSilent, Answers.MayAnswer, Answers.MayEnd, Stops.CausesOf, Stops.GaveAll, Stops.IsMissed}
-use Rattle.sim_top.specs.{Stops.IsOfContent}
-use Rattle.sim_top.specs.{Common.Counts, Common.File, Common.file_in, Common.usage_text, Reads.IsUnfound, Reads.LacksFirst, Reads.LacksMatch, Reads.length_in}
-use Rattle.sim_top.specs.{Given.GaveFor, Given.GaveForWords, Outcome.IsOutcomeOf, Outcome.Outcome, Words.Asked, Words.asked_by, Words.out_of}
-use Rattle.sim_top.specs.Making.{file_of, IsFileAs, IsFinished, IsSavedAs, IsUsageMade, Makes, MeetsBefore, SavesIfDone, status_made}
-use Rattle.sim_top.specs.declared.{commands.Answer.Answer, commands.Saved.Saved, status.Status.Status, status.Status.TheVariants.WriteFault, stop.Stop.Stop}
+use Rattle.sim_top.specs.Common.{Counts, File, IsSetup, IsValid, Setup, State, file_in, usage_text}
+use Rattle.sim_top.specs.Making.{IsFileAs, IsFinished, IsSavedAs, IsUsageMade, Makes, MeetsBefore, SavesIfDone, file_of, status_made}
+use Rattle.sim_top.specs.declared.{commands.Saved.Saved, status.Status.Status, status.Status.TheVariants.WriteFault, stop.Stop.Stop}
+use Rattle.sim_top.specs.{Outcome.IsOutcomeOf, Outcome.Outcome, Reads.CountsBefore, Reads.GaveFor, Reads.GaveForWords, Reads.IsSilent, Reads.IsUnfound}
+use Rattle.sim_top.specs.{Reads.LacksFirst, Reads.LacksMatch, Reads.MayAnswer, Reads.MayEnd, Reads.length_in, Stops.CausesOf, Stops.GaveAll, Stops.IsMissed}
+use Rattle.sim_top.specs.{Stops.IsOfContent, Stops.Reads, Words.Asked, Words.asked_by, Words.out_of, declared.commands.Answer.Answer}
+use Rattle.std.specs.Prelude.{[], Err, false, IfErr, IfOk, IfSome, List, None, Option, option_map, Result, Some, ℕ, ◌≡◌, ◌≢◌}
+use Rattle.std.specs.Str.{is_utf8}
 
 -- what a shelf holds, where it tells it, and what it has counted
 pub record Shelved : Type 0 where
@@ -36,6 +37,18 @@ pub record HasParsed {X : Type 0} (found : Result X Stop) (IsGood : X → Type 0
   pub good : IfOk found IsGood
   pub stops : IfErr found IsOf
   pub content : IfErr found IsOfContent
+
+-- what a text comes to, of which this is wanted: bytes that are no text are refused so without a look at the memory
+pub record HasParsedText {X : Type 0} (wanted : Result X Outcome) (bytes : List ℕ) (refused : Stop) (IsGood : X → Type 0) (IsOf : Stop → Type 0)
+    (found : Result X Stop) : Type 0 where
+  pub tells : Reads found wanted
+  pub no_text : is_utf8 bytes ≡ false → found ≡ Err refused
+  pub parsed : HasParsed found IsGood IsOf
+
+-- a sight of a match may join at a state
+pub record MayJoin (setup : Setup) (state : State) : Type 0 where
+  pub limits : IsSetup setup
+  pub valid : IsValid setup state
 
 -- an outcome with which a command may end that has its text
 pub record MayFinish (asked : Asked) (wanted : Outcome) : Type 0 where

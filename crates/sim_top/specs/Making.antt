@@ -1,11 +1,11 @@
 -- What a command has made when it has read its files: an outcome that is still to be written, or why it ends before.
-use Rattle.{sim_base.specs.declared.memory.OutOfMemory.OutOfMemory as Memory, std.specs.Prelude.option_map}
-use Rattle.std.specs.Prelude.{◌≡◌, ℕ, ◌<◌, ◌≢◌, ◌⊎◌, List, [], length, take, IfOk, IfErr, OnErr, ⊤, Some, None, Ok, Err, string_bytes, Option, Result, String}
-use Rattle.sim_top.specs.{Answers.Saves, Answers.SavesPart, Stops.status_of, Stops.Stopped, declared.status.Status.Status}
-use Rattle.sim_top.specs.{Common.Appends, Common.File, Common.Global, Common.raised, Common.StoreFault, Outcome.IsOutcome, Outcome.Outcome}
-use Rattle.sim_top.specs.declared.{commands.Answer.Answer, commands.Saved.Saved, stop.Stop.Stop, stop.Stop.TheVariants.OutOfMemory as NoMemory}
-use Rattle.sim_top.specs.declared.status.Status.TheVariants.{Differs, Done, OutOfMemory, ReadFault, Usage, WriteFault}
 use Rattle.sim_store.specs.declared.fault.StoreFault.TheVariants as store
+use Rattle.sim_top.specs.declared.status.Status.TheVariants.{Differs, Done, OutOfMemory, ReadFault, Usage, WriteFault}
+use Rattle.sim_top.specs.declared.{commands.Answer.Answer, commands.Saved.Saved, status.Status.Status, stop.Stop.Stop}
+use Rattle.sim_top.specs.{Common.Appends, Common.File, Common.Global, Common.StoreFault, Common.raised, Outcome.IsOutcome, Outcome.Outcome, Reads.Saves}
+use Rattle.std.specs.Prelude.{[], Err, IfErr, IfOk, length, List, None, Ok, OnErr, Option, option_map, Result, Some, String, string_bytes, take, ℕ, ⊤, ◌<◌, ◌≡◌}
+use Rattle.{sim_base.specs.declared.memory.OutOfMemory.OutOfMemory as Memory, sim_top.specs.Reads.SavesPart, sim_top.specs.Stops.Stopped}
+use Rattle.{sim_top.specs.Stops.status_of, sim_top.specs.declared.stop.Stop.TheVariants.OutOfMemory as NoMemory, std.specs.Prelude.◌≢◌, std.specs.Prelude.◌⊎◌}
 
 -- the file that is to be saved
 abbrev pub file_of : Saved → File

@@ -1,24 +1,25 @@
 -- What the words ask for: a status, a text and perhaps a file that is saved, by the files that are held. A stored state is
 -- the one that its bytes stand for, or the first cause for which they stand for none.
-use Rattle.{sim_codec.specs.Loading.RefusedFor, sim_report.specs.Places.place_text, sim_session.specs.Served.served_text, sim_store.specs.Reading.reading_of}
-use Rattle.{sim_diff.specs.declared.place.Place.Place, sim_territory.specs.Realms.realm_of, sim_trial.specs.Trial.text_of_trial}
-use Rattle.{sim_setup.specs.Refusals.Refusal, sim_vision.specs.Vision.cells_in}
-use Rattle.std.specs.Prelude.{◌≡◌, ℕ, ◌*◌, List, [], length, if◌then◌else◌, nat_lt, Some, None, Ok, Err, codes, Option, Result}
-use Rattle.sim_play.specs.{Lines.rejoin_text, Logs.digests_after, Realms.TellsRealm, Seen.resight_text, Seen.sight_file, Seen.sight_text}
-use Rattle.sim_replay.specs.{Apart.first_apart, Logs.IsRefusedAt, declared.apart.Apart.Apart}
-use Rattle.sim_report.specs.declared.refusal.Refusal.TheVariants.{List as OfList, Economy as OfEconomy, Log as OfLog}
-use Rattle.sim_top.specs.{Common.trial_line, Common.Turn, Common.usage_text, Common.Vision, declared.status.Status.Status}
-use Rattle.sim_top.specs.Common.{SightFault, spelling, StandsFor, State, StateFault, StepList, steps_of, stock_text, stored_text, StoreFault, text_of_log}
-use Rattle.sim_top.specs.Common.{after, agree_line, apart_lines, difference_of, digest, Economy, economy_of, File, file_in, film_text, IsLog, joined_at, Log}
-use Rattle.sim_top.specs.Common.{log_after, logged_line, Match, match_turns, own_turns, parts_text, play_text, refusal_of, refusal_text, released_turns}
-use Rattle.sim_top.specs.Common.{resume_text, saved_line, Schedule, schedule_of, session_of, session_setup_of, session_text, Setup, setup_of, show_text, Sight}
-use Rattle.sim_top.specs.Words.{Asked, asked_by, to_check, to_compare, to_film, to_log, to_parts, to_play, to_realm, to_record, to_rejoin, to_resight}
-use Rattle.sim_top.specs.Words.{to_resume, to_serve, to_session, to_show, to_sight, to_stock, to_store, to_try}
-use Rattle.sim_top.specs.declared.status.Status.TheVariants.{Differs, Done, EconomyRefused, ListRefused, LogRefused, MatchRefused, NoFile, NoSuchTurn}
-use Rattle.sim_top.specs.declared.status.Status.TheVariants.{ReadFault, SightRefused, StateRefused, TooLong, Usage}
 use Rattle.sim_codec.specs.declared.fault.StateFault.TheVariants as stored
 use Rattle.sim_store.specs.declared.fault.StoreFault.TheVariants as store
 use Rattle.sim_vision.specs.declared.fault.SightFault.TheVariants as sights
+use Rattle.sim_play.specs.{Films.digests_after, Lines.rejoin_text, Lines.resight_text, Lines.sight_file, Lines.sight_text, Realms.TellsRealm}
+use Rattle.sim_report.specs.declared.refusal.Refusal.TheVariants.{Economy as OfEconomy, List as OfList, Log as OfLog}
+use Rattle.sim_top.specs.Common.{after, agree_line, AllBuiltAtMost, AllStand, apart_lines, AreCleared, AreFed, builds_of, difference_of, digest, Economy}
+use Rattle.sim_top.specs.Common.{economy_of, File, file_in, film_text, Ghosts, IsLog, IsSetup, IsStepList, joined_at, Log, log_after, logged_line, Match}
+use Rattle.sim_top.specs.Common.{match_turns, Meaning, own_turns, parts_text, play_text, refusal_of, refusal_text, released_turns, resume_text, Rig, rigs_by}
+use Rattle.sim_top.specs.Common.{saved_line, Schedule, schedule_of, session_of, session_setup_of, session_text, Setup, setup_of, show_text, Sight, SightFault}
+use Rattle.sim_top.specs.Common.{spelling, StandsFor, State, state_after, StateFault, StepList, steps_of, stock_text, stored_text, StoreFault, text_of_log}
+use Rattle.sim_top.specs.Words.{Asked, asked_by, to_check, to_compare, to_film, to_log, to_parts, to_play, to_realm, to_record, to_rejoin, to_resight}
+use Rattle.sim_top.specs.declared.status.Status.TheVariants.{Differs, Done, EconomyRefused, ListRefused, LogRefused, MatchRefused, NoFile, NoSuchTurn}
+use Rattle.sim_top.specs.declared.status.Status.TheVariants.{ReadFault, SightRefused, StateRefused, TooLong, Usage}
+use Rattle.sim_top.specs.{Common.Turn, Common.Vision, Common.trial_line, Common.usage_text, Words.to_resume, Words.to_serve, Words.to_session, Words.to_show}
+use Rattle.std.specs.Prelude.{[], All, codes, drop, Err, IfOk, if◌then◌else◌, length, List, nat_lt, None, Ok, Option, Result, slice_index_or, Some, ℕ, ◌*◌, ◌+◌}
+use Rattle.{sim_client.specs.StageWords.nowhere, sim_session.specs.Served.served_text, sim_territory.specs.Realms.realm_of, sim_trial.specs.Trial.text_of_trial}
+use Rattle.{sim_codec.specs.Loading.RefusedFor, sim_replay.specs.Apart.first_apart, sim_report.specs.Places.place_text, sim_store.specs.Reading.reading_of}
+use Rattle.{sim_diff.specs.declared.place.Place.Place, sim_replay.specs.declared.apart.Apart.Apart, sim_top.specs.declared.status.Status.Status}
+use Rattle.{sim_replay.specs.Logs.IsRefusedAt, sim_setup.specs.Refusals.Refusal, sim_top.specs.Words.to_sight, sim_vision.specs.Vision.cells_in}
+use Rattle.{sim_top.specs.Words.to_stock, sim_top.specs.Words.to_store, sim_top.specs.Words.to_try, std.specs.Prelude.◌==◌, std.specs.Prelude.◌≡◌}
 
 -- what a run comes to: a status, the whole text, and the file that it saves, if any
 pub record Outcome : Type 0 where
@@ -299,3 +300,43 @@ IsOutcomeOf files (Some (to_parts game)) wanted = Then (match_in files game) (λ
 -- the outcome of the words over the held files
 abbrev pub IsOutcome : List (List ℕ) → List File → Outcome → Type 0
 IsOutcome words files wanted = IsOutcomeOf files (asked_by words) wanted
+
+-- A session that is asked for: its match and its steps are those of the files that are held, and what its rigs have come to.
+
+-- this holds of the match and the list of steps that the files of a session have, where one is asked for
+abbrev pub OfSession : List File → Option Asked → (Setup → StepList → Type 0) → Type 0
+OfSession files (Some (to_session game steps)) P = IfOk (session_match_in files game) (λ setup. IfOk (steps_in files steps setup.players) (P setup))
+OfSession files other P = Unit {0}
+
+-- The match and the steps are within their limits. The rig of each client stands for its state in the end, or is cleared where it has
+-- none; it was built at most once for a start and once for each load. The rigs of no client are as they were.
+pub record IsHostedBy {X : Type 0} {F : X → Type 0} (meaning : (i : X) → F i → Meaning) (setup : Setup) (list : StepList) (old new : List (Rig X F)) :
+    Type 0 where
+  pub limits : IsSetup setup
+  pub steps : IsStepList setup.players list
+  pub stand : AllStand setup (session_of setup list) (rigs_by new meaning)
+  pub built : AllBuiltAtMost (builds_of setup list) setup.players (rigs_by old meaning) (rigs_by new meaning)
+  pub spare : drop setup.players new ≡ drop setup.players old
+
+-- the same, as a clause has it
+abbrev pub IsHosted : {X : Type 0} {F : X → Type 0} → ((i : X) → Ghosts (F i)) → Setup → StepList → List (Rig X F) → List (Rig X F) → Type 0
+IsHosted sys setup list old new = IsHostedBy (λ i v. (sys i).meaning v) setup list old new
+
+-- this holds of the match and the list of steps of a session that is to be recorded
+abbrev pub OfRecord : List File → Option Asked → (Setup → StepList → Type 0) → Type 0
+OfRecord files (Some (to_record game steps out)) P = IfOk (session_match_in files game) (λ setup. IfOk (steps_in files steps setup.players) (P setup))
+OfRecord files other P = Unit {0}
+
+-- how often the rig of a client is built at most where the first of them plays the log too
+abbrev pub builds_with_log : Setup → StepList → ℕ → ℕ
+builds_with_log setup list c = builds_of setup list c + (if c == 1 then 1 else 0)
+
+-- a session was recorded: the first rig stands for the last state of the log, and the others are cleared
+pub record IsRecordedBy {X : Type 0} {F : X → Type 0} (meaning : (i : X) → F i → Meaning) (setup : Setup) (list : StepList) (new : List (Rig X F)) :
+    Type 0 where
+  pub first : AreFed setup (state_after setup (released_turns (session_of setup list))) (slice_index_or (rigs_by new meaning) 0 nowhere)
+  pub others : All AreCleared (drop 1 (rigs_by new meaning))
+
+-- the same, as a clause has it
+abbrev pub IsRecorded : {X : Type 0} {F : X → Type 0} → ((i : X) → Ghosts (F i)) → Setup → StepList → List (Rig X F) → Type 0
+IsRecorded sys setup list new = IsRecordedBy (λ i v. (sys i).meaning v) setup list new

@@ -1,10 +1,10 @@
 -- How the eight rigs of a run come back, with every status.
-use Rattle.std.specs.Prelude.{◌≡◌, ℕ, false, ◌⊎◌, List, length, drop, IfSome, Some, Ok, vec_capacity, All, Option, Vec}
-use Rattle.sim_top.specs.{Common.Setup, Common.StepList, Common.systems_by, Outcome.session_match_in, Outcome.steps_in}
-use Rattle.sim_top.specs.{Hosting.builds_with_log, Hosting.IsHostedBy, Hosting.IsRecordedBy, Hosting.OfRecord, Hosting.OfSession, Reads.HasEnded}
-use Rattle.sim_top.specs.{Rigs.OfFirsts, Rigs.RigStands, Rigs.SecondStands, Rigs.used, Words.Asked, Words.is_session, Words.to_record, Words.to_session}
 use Rattle.sim_top.specs.Common.{AllBuiltAtMost, AreBuiltOnceAtMost, builds_of, File, Ghosts, Global, HaveKinds, IsSetup, IsStepList, Meaning, Rig, rigs_by}
-use Rattle.sim_top.specs.declared.status.Status.{Status, TheVariants.Differs, TheVariants.Done, TheVariants.OutOfMemory, TheVariants.WriteFault}
+use Rattle.sim_top.specs.declared.status.Status.TheVariants.{Differs, Done, OutOfMemory, WriteFault}
+use Rattle.sim_top.specs.{Common.Setup, Common.StepList, Common.systems_by, Outcome.IsHostedBy, Outcome.IsRecordedBy, Outcome.OfRecord, Outcome.OfSession}
+use Rattle.sim_top.specs.{Outcome.builds_with_log, Outcome.session_match_in, Outcome.steps_in, Reads.HasEnded, Stops.OfFirsts, Stops.RigStands}
+use Rattle.sim_top.specs.{Stops.SecondStands, Stops.used, Words.Asked, Words.is_session, Words.to_record, Words.to_session, declared.status.Status.Status}
+use Rattle.std.specs.Prelude.{All, drop, false, IfSome, length, List, Ok, Option, Some, Vec, vec_capacity, ℕ, ◌≡◌, ◌⊎◌}
 
 -- a run that ended so has played nothing: the words, or what a file says or lacks, ended it before
 abbrev pub IsUnplayed : Status → Type 0

@@ -2,8 +2,8 @@
 //! is written here. Each command that plays takes the rigs that it uses out of the equipment, and puts them back.
 
 ghost use Rattle.std.specs.Prelude.{Some, string_bytes};
-ghost use Rattle.sim_top.specs.{Commands.IsAnswerTo, Commands.shelved, Making.IsMadeOf, Making.status_made};
-ghost use Rattle.sim_top.specs.{Outcome.printed as printed_as, Returning.RigsCameBack, Rigs.AreFresh, Trials.CanBeTried, Words.asked};
+ghost use Rattle.sim_top.specs.{Commands.IsAnswerTo, Commands.shelved, Making.IsMadeOf, Making.status_made, Outcome.printed as printed_as};
+ghost use Rattle.sim_top.specs.{Returning.RigsCameBack, Stops.AreFresh, Trials.CanBeTried, Words.asked};
 
 mod comparing;
 mod films;

@@ -1,15 +1,14 @@
 //! What a command reads: the match of a file, a stored state of that match, explored cells, an economy, a log, a schedule, and the match and the
 //! steps of a session; and the match of a trial. What is refused without a look at its contents takes no memory.
 
-ghost use Rattle.{sim_codec.specs.Loading.head_fault, sim_lists.specs.Schedules.IsSchedule};
-ghost use Rattle.{sim_top.specs.Commands.HasParsed, sim_top.specs.Commands.HasRead, sim_top.specs.Commands.shelved};
-ghost use Rattle.{sim_top.specs.Common.steps_of as steps_of_bytes, std.specs.Str.is_utf8};
-ghost use Rattle.std.specs.Prelude.{◌≡◌, false, List, IfSome, IsErrAnd, Some, None, Ok, Err};
-ghost use Rattle.sim_top.specs.{Outcome.trial_match as match_of_trial, Stops.Reads, Stops.ReadsBytes, Stops.ReadsCounting, Stops.ReadsLog, Stops.ReadsState};
+ghost use Rattle.std.specs.Prelude.{IfSome, IsErrAnd, List, None, Ok, Some, ◌≡◌};
 ghost use Rattle.sim_top.specs.Common.{economy_of as economy_of_bytes, File, file_in, IsEconomy, IsLog, IsSetup, IsStepList, IsTrial, IsValid, refusal_of};
 ghost use Rattle.sim_top.specs.Common.{schedule_of as schedule_of_bytes, session_setup_of as session_setup_of_bytes, setup_of as setup_of_bytes};
 ghost use Rattle.sim_top.specs.Outcome.{bytes_in, economy_by, economy_in, list_by, map_at, map_by, match_in, schedule_in, session_match_in, setup_by, steps_in};
-ghost use Rattle.sim_top.specs.Stops.{IsMissed, IsOfEconomy, IsOfList, IsOfLog, IsOfMap, IsOfMatch, IsOfState, IsStateStop, Joins, LoadsState};
+ghost use Rattle.sim_top.specs.Stops.{IsMissed, IsOfEconomy, IsOfList, IsOfLog, IsOfMap, IsOfMatch, IsOfState, IsStateStop, Joins, LoadsState, Reads};
+ghost use Rattle.sim_top.specs.{Commands.HasParsed, Commands.HasRead, Commands.MayJoin, Commands.shelved, Stops.ReadsBytes, Stops.ReadsLog, Stops.ReadsState};
+ghost use Rattle.sim_top.specs.{Common.steps_of as steps_of_bytes, Outcome.trial_match as match_of_trial, Stops.ReadsCounting};
+ghost use Rattle.{sim_codec.specs.Loading.head_fault, sim_lists.specs.StepLists.IsSchedule, sim_top.specs.Commands.HasParsedText};
 
 use crate::stop::Stop;
 use sim_base::{Setup, State};
@@ -43,9 +42,7 @@ fn read_bytes<'w, S: Shelf>(alloc: Global, shelf: &mut S, name: &str) -> Result<
 
 // The match of the bytes of a file.
 fn match_of<'w>(alloc: Global, bytes: &[u8]) -> Result<Setup, Stop<'w>>
-    ensures tells { Reads result (setup_by (setup_of_bytes bytes.now)) }
-    ensures no_text { is_utf8 bytes.now ≡ false → result ≡ Err (Stop.MatchRefused 1 0) }
-    ensures parsed { HasParsed result IsSetup IsOfMatch }
+    ensures { HasParsedText (setup_by (setup_of_bytes bytes.now)) bytes.now (Stop.MatchRefused 1 0) IsSetup IsOfMatch result }
 {
     Ok(setup_of(alloc, bytes)?)
 }
@@ -63,9 +60,7 @@ pub fn read_match<'w, S: Shelf>(alloc: Global, shelf: &mut S, name: &str) -> Res
 
 // The match for a session of the bytes of a file.
 fn session_match_of<'w>(alloc: Global, bytes: &[u8]) -> Result<Setup, Stop<'w>>
-    ensures tells { Reads result (setup_by (session_setup_of_bytes bytes.now)) }
-    ensures no_text { is_utf8 bytes.now ≡ false → result ≡ Err (Stop.MatchRefused 1 0) }
-    ensures parsed { HasParsed result IsSetup IsOfMatch }
+    ensures { HasParsedText (setup_by (session_setup_of_bytes bytes.now)) bytes.now (Stop.MatchRefused 1 0) IsSetup IsOfMatch result }
 {
     Ok(session_setup_of(alloc, bytes)?)
 }
@@ -137,8 +132,7 @@ fn sight_of<'a, 'w>(
     state: &State,
     bytes: &[u8],
 ) -> Result<Sight<'a>, Stop<'w>>
-    requires limits { IsSetup setup.now }
-    requires valid { IsValid setup.now state.now }
+    requires { MayJoin setup.now state.now }
     ensures joins { Joins result setup.now state.now (map_by (refusal_of setup.now state.now.rows bytes.now) bytes.now) }
     ensures parsed { HasParsed result (λ sight. sight.setup ≡ setup.now) IsOfMap }
 {
@@ -153,8 +147,7 @@ pub fn read_sight<'a, 'w, S: Shelf>(
     state: &State,
     name: &str,
 ) -> Result<Sight<'a>, Stop<'w>>
-    requires limits { IsSetup setup.now }
-    requires valid { IsValid setup.now state.now }
+    requires { MayJoin setup.now state.now }
     ensures tells { IfSome (S.held shelf.old) (λ files. Joins result setup.now state.now (map_at setup.now state.now (bytes_in files name.now))) }
     ensures read { HasRead result (λ sight. sight.setup ≡ setup.now) IsOfMap name.now (shelved (S.held shelf.old) (S.counts shelf.old))
         (shelved (S.held shelf.new) (S.counts shelf.new)) }
@@ -165,9 +158,7 @@ pub fn read_sight<'a, 'w, S: Shelf>(
 
 // The economy of a match that the bytes of a file are.
 fn economy_from<'w>(alloc: Global, setup: &Setup, bytes: &[u8]) -> Result<Economy, Stop<'w>>
-    ensures tells { Reads result (economy_by (economy_of_bytes setup.now bytes.now)) }
-    ensures no_text { is_utf8 bytes.now ≡ false → result ≡ Err (Stop.EconomyRefused 0) }
-    ensures parsed { HasParsed result (IsEconomy setup.now) IsOfEconomy }
+    ensures { HasParsedText (economy_by (economy_of_bytes setup.now bytes.now)) bytes.now (Stop.EconomyRefused 0) (IsEconomy setup.now) IsOfEconomy result }
 {
     Ok(economy_of(alloc, setup, bytes)?)
 }
@@ -213,9 +204,7 @@ pub fn read_log<'w, S: Shelf>(
 
 // The schedule of the bytes of a file.
 fn schedule_from<'w>(alloc: Global, bytes: &[u8]) -> Result<Schedule, Stop<'w>>
-    ensures tells { Reads result (list_by (schedule_of_bytes bytes.now)) }
-    ensures no_text { is_utf8 bytes.now ≡ false → result ≡ Err (Stop.ListRefused 0) }
-    ensures parsed { HasParsed result IsSchedule IsOfList }
+    ensures { HasParsedText (list_by (schedule_of_bytes bytes.now)) bytes.now (Stop.ListRefused 0) IsSchedule IsOfList result }
 {
     Ok(schedule_of(alloc, bytes)?)
 }
@@ -237,9 +226,7 @@ pub fn read_schedule<'w, S: Shelf>(
 
 // The list of steps of the bytes of a file, for so many players.
 fn steps_from<'w>(alloc: Global, bytes: &[u8], players: u8) -> Result<StepList, Stop<'w>>
-    ensures tells { Reads result (list_by (steps_of_bytes players bytes.now)) }
-    ensures no_text { is_utf8 bytes.now ≡ false → result ≡ Err (Stop.ListRefused 0) }
-    ensures parsed { HasParsed result (IsStepList players) IsOfList }
+    ensures { HasParsedText (list_by (steps_of_bytes players bytes.now)) bytes.now (Stop.ListRefused 0) (IsStepList players) IsOfList result }
 {
     Ok(steps_of(alloc, bytes, players)?)
 }

@@ -1,7 +1,7 @@
 //! How a run ends. The numbers stand here and nowhere else.
 
 ghost use Rattle.std.specs.Prelude.{◌≡◌};
-ghost use Rattle.sim_top.specs.Answers.{status_number};
+ghost use Rattle.sim_top.specs.Reads.{status_number};
 
 /// How a run ends.
 #[derive(Clone, Copy, Debug, PartialEq, Eq)]

@@ -1,15 +1,14 @@
 //! The top call: from the words to a status. All files are read and the whole text is made before anything is written,
 //! so that a refusal or want of memory leaves the sink and the files as they were.
 
-ghost use Rattle.{sim_store.specs.Writing.FileCauses, sim_top.specs.Hosting.OfSession, sim_top.specs.Logs.TellsLogs, sim_top.specs.Rigs.AreFresh};
-ghost use Rattle.std.specs.Prelude.{◌≡◌, ℕ, ◌≢◌, List, [], length, IfSome, IfOk, IsOk, Some, None, string_bytes, All, Option, option_map};
-ghost use Rattle.sim_top.specs.{Commands.IsPrepared, Commands.shelved, Stocks.Balances, Stocks.OfStock, Territories.OfRealm, Territories.Territories};
-ghost use Rattle.sim_top.specs.{Films.Film, Films.OfFilm, Reads.HasEnded, Reads.IsUnfound, Reads.LacksMatch, Stops.status_of, Stops.stop_text as text_of_stop};
-ghost use Rattle.sim_top.specs.{Given.GaveForWords, Headline.Headline, Parts.OfParts, Parts.PartsTold, Returning.RigsCameBack, Sights.TellsSights};
-ghost use Rattle.sim_top.specs.{Readiness.IsFaultless, Readiness.IsFinal, Readiness.IsReady, Words.Asked, Words.asked_by, Words.out_of, Words.words_of};
-ghost use Rattle.sim_top.specs.Answers.{Causes, CountsBefore, IsSilent, IsUsageTold, KeepsAllBut, MayEnd, Meets, scene};
-ghost use Rattle.sim_top.specs.Common.{Appends, AreCleared, Counts as AllCounts, File, HaveKinds, systems_of, usage_text as text_of_usage};
+ghost use Rattle.std.specs.Prelude.{[], IfOk, IfSome, IsOk, List, None, Option, option_map, Some, string_bytes, ℕ, ◌≡◌, ◌≢◌};
+ghost use Rattle.sim_store.specs.Reading.{FileCauses};
+ghost use Rattle.sim_top.specs.Headline.{Balances, Film, Headline, OfFilm, OfParts, OfRealm, OfStock, PartsTold, TellsLogs, TellsSights, Territories};
 ghost use Rattle.sim_top.specs.Making.{file_of, IsAnswered, IsSavedAs, IsSettled, MeetsBefore, SaveMeets, SavesIfDone, Tells};
+ghost use Rattle.sim_top.specs.Reads.{Causes, CountsBefore, GaveForWords, HasEnded, IsFaultless, IsFinal, IsReady, IsSilent, IsUnfound, IsUsageTold};
+ghost use Rattle.sim_top.specs.{Commands.IsPrepared, Commands.shelved, Common.Appends, Outcome.OfSession, Reads.KeepsAllBut, Reads.LacksMatch, Stops.status_of};
+ghost use Rattle.sim_top.specs.{Common.Counts as AllCounts, Common.usage_text as text_of_usage, Returning.RigsCameBack, Stops.stop_text as text_of_stop};
+ghost use Rattle.sim_top.specs.{Common.File, Reads.MayEnd, Reads.Meets, Reads.scene, Stops.AreFresh, Words.Asked, Words.asked_by, Words.out_of, Words.words_of};
 
 use crate::commands::{Answer, Equipment, Saved};
 use crate::words::request_of;
@@ -41,9 +40,7 @@ pub fn run<S: Shelf, K: Sink>(
     orders: &OrderTable,
     deeds: &DeedTable,
 ) -> Ended
-    requires eight { length rigs.items ≡ 8 }
-    requires kinds { All (λ r. HaveKinds (systems_of r ⟦<dyn System as System>⟧)) rigs.items }
-    requires cleared { All (λ r. AreCleared (systems_of r ⟦<dyn System as System>⟧)) rigs.items }
+    requires { AreFresh ⟦<dyn System as System>⟧ rigs.items }
 
     // What this program is for: where a session is asked for, what the sink was told of it is what the headline says of its match
     // and its steps.

@@ -1,8 +1,8 @@
 //! The words after the program's name, and the request that they make. A word that is out of place makes none.
 
-ghost use Rattle.std.specs.Prelude.{◌≡◌, ◌≤◌, length, IfSome, Some, option_map};
-ghost use Rattle.sim_top.specs.{Trials.CanBeTried, Words.trial_of as trial_asked, Words.turn_in, Words.words_of};
-ghost use Rattle.sim_top.specs.Words.{asked, asked_by, asked_of_log, asked_of_one, asked_of_sight, asked_of_three, asked_of_two, digits_from, every_in};
+ghost use Rattle.std.specs.Prelude.{◌≡◌, ◌≤◌, length, IfSome, Some};
+ghost use Rattle.sim_top.specs.{Trials.AsksFor, Words.digits_from, Words.every_in, Words.trial_of as trial_asked, Words.turn_in, Words.words_of};
+ghost use Rattle.sim_top.specs.Words.{asked_by, asked_of_log, asked_of_one, asked_of_sight, asked_of_three, asked_of_two};
 
 use sim_trial::is_trial;
 
@@ -106,8 +106,7 @@ pub enum Request<'w> {
 
 /// The request of the words, if they make one.
 pub fn request_of(words: &[String]) -> Option<Request<'_>>
-    ensures asked { option_map asked result ≡ asked_by (words_of words.now) }
-    ensures trial { IfSome result (λ request. CanBeTried (asked request)) }
+    ensures { AsksFor (asked_by (words_of words.now)) result }
 {
     match words {
         [command, a] => request_of_one(command.as_str(), a.as_str()),
@@ -120,8 +119,7 @@ pub fn request_of(words: &[String]) -> Option<Request<'_>>
 }
 
 fn request_of_one<'w>(command: &str, file: &'w str) -> Option<Request<'w>>
-    ensures asked { option_map asked result ≡ asked_of_one command.now file.now }
-    ensures trial { IfSome result (λ request. CanBeTried (asked request)) }
+    ensures { AsksFor (asked_of_one command.now file.now) result }
 {
     if command == "play" {
         return Some(Request::Play { game: file });
@@ -136,8 +134,7 @@ fn request_of_one<'w>(command: &str, file: &'w str) -> Option<Request<'w>>
 }
 
 fn request_of_two<'w>(command: &str, a: &'w str, b: &'w str) -> Option<Request<'w>>
-    ensures asked { option_map asked result ≡ asked_of_two command.now a.now b.now }
-    ensures trial { IfSome result (λ request. CanBeTried (asked request)) }
+    ensures { AsksFor (asked_of_two command.now a.now b.now) result }
 {
     if command == "resume" {
         return Some(Request::Resume { game: a, stored: b });
@@ -171,8 +168,7 @@ fn request_of_two<'w>(command: &str, a: &'w str, b: &'w str) -> Option<Request<'
 
 // A request about a log.
 fn request_of_log<'w>(command: &str, a: &'w str, b: &'w str) -> Option<Request<'w>>
-    ensures asked { option_map asked result ≡ asked_of_log command.now a.now b.now }
-    ensures trial { IfSome result (λ request. CanBeTried (asked request)) }
+    ensures { AsksFor (asked_of_log command.now a.now b.now) result }
 {
     if command == "log" {
         return Some(Request::Log { game: a, out: b });
@@ -184,8 +180,7 @@ fn request_of_log<'w>(command: &str, a: &'w str, b: &'w str) -> Option<Request<'
 }
 
 fn request_of_three<'w>(command: &str, a: &'w str, b: &'w str, c: &'w str) -> Option<Request<'w>>
-    ensures asked { option_map asked result ≡ asked_of_three command.now a.now b.now c.now }
-    ensures trial { IfSome result (λ request. CanBeTried (asked request)) }
+    ensures { AsksFor (asked_of_three command.now a.now b.now c.now) result }
 {
     if command == "state" {
         let turn = turn_of(b)?;
@@ -217,8 +212,7 @@ fn request_of_three<'w>(command: &str, a: &'w str, b: &'w str, c: &'w str) -> Op
 
 // A request about what the players see.
 fn request_of_sight<'w>(command: &str, a: &'w str, b: &'w str, c: &'w str) -> Option<Request<'w>>
-    ensures asked { option_map asked result ≡ asked_of_sight command.now a.now b.now c.now }
-    ensures trial { IfSome result (λ request. CanBeTried (asked request)) }
+    ensures { AsksFor (asked_of_sight command.now a.now b.now c.now) result }
 {
     if command == "sight" {
         let turn = turn_of(b)?;
@@ -240,8 +234,7 @@ fn request_of_sight<'w>(command: &str, a: &'w str, b: &'w str, c: &'w str) -> Op
 
 // The trial of these numbers, if they are within its limits.
 fn trial_of<'w>(seed: u32, units: u32, turns: u32) -> Option<Request<'w>>
-    ensures asked { option_map asked result ≡ trial_asked (Some seed) (Some units) (Some turns) }
-    ensures trial { IfSome result (λ request. CanBeTried (asked request)) }
+    ensures { AsksFor (trial_asked (Some seed) (Some units) (Some turns)) result }
 {
     if is_trial(u64::from(seed), units, turns) {
         Some(Request::Trial { seed, units, turns })

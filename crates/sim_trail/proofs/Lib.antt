@@ -1,5 +1,3 @@
-pub mod Rising
 pub mod Merging
-pub mod Summing
 pub mod Examples
 pub mod PlacedRows

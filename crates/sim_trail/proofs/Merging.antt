@@ -1,10 +1,106 @@
 -- The pass over two lists of marks gives the changes of each id, ascending.
-use Rattle.std.{proofs.lemmas.Bool.eq-eqb, proofs.lemmas.Bool.eqb-true, proofs.lemmas.Bool.true≢false, specs.List.flat_map, specs.List.range_with_len}
-use Rattle.std.proofs.{Common.ap, Common.append_assoc, Common.arith, Common.sym, Common.⊎_elim, Common.◌∙◌, Math.Nat.eq-or-lt_of_le}
-use Rattle.std.proofs.Common.{◌≡◌, ℕ, zero, suc, ◌+◌, ◌<◌, ◌≤◌, min, max, Bool, true, false, cond, eqb, List, [], ◌∷◌, ◌++◌, length, Some, None, Option, refl}
-use Rattle.sim_trail.proofs.Rising.{absent, behind_below, behind_rises, behind_same, Below, below_end, first_is, rising, rising_less, RisingFrom}
-use Rattle.sim_trail.specs.{Marks.IsAscending, Shifts.change_of, Shifts.end_of, Shifts.mark_at, Shifts.same_mark, Shifts.shifts_between}
-use Rattle.sim_trail.specs.{Merge.behind, Merge.first_of, Merge.next_id, declared.mark.Mark.Mark, declared.shift.Shift.Shift}
+use Rattle.sim_base.specs.{Rows.id_of, declared.state.Row.Row, declared.state.State.State}
+use Rattle.sim_trail.specs.Shifts.{born, change_of, end_of, gone, id_of_mark, IsAscending, mark_at, mark_of, marks_of, same_mark, shifts_between, SumFollows}
+use Rattle.sim_trail.specs.{Merge.behind, Merge.first_of, Merge.next_id, Shifts.weight_born, Shifts.weight_gone, declared.mark.Mark.Mark}
+use Rattle.std.proofs.Common.{Some, subst, suc, sym, true, zero, ℕ, ⊎_elim, ◌++◌, ◌+◌, ◌<◌, ◌∙◌, ◌∷◌, ◌≡◌, ◌≤◌}
+use Rattle.std.proofs.Common.{[], add-one, add-zero, ap, append_assoc, arith, Bool, cond, eqb, false, get_or, length, List, map, max, min, None, Option, refl}
+use Rattle.std.proofs.lemmas.{Bool.and_parts, Bool.eq-eqb, Bool.eqb-true, Bool.ne_eqb, Bool.true≢false, List.Sums.sum_by-append, List.Sums.sum_by-cons}
+use Rattle.std.specs.List.{Sorted.IsStrictlyIncreasing, flat_map, fold, range_with_len, sum_by}
+use Rattle.{sim_trail.specs.declared.shift.Shift.Shift, std.proofs.Math.Nat.eq-or-lt_of_le}
+
+-- Marks whose ids rise from a number on, by recursion on the marks, and the mark of an id among them.
+
+-- the ids rise, from n on
+abbrev pub RisingFrom : ℕ → List Mark → Type 0
+RisingFrom n [] = Unit {0}
+RisingFrom n (mark ∷ marks) = (n ≤ mark.id) × RisingFrom (mark.id + 1) marks
+
+-- each id is below n
+abbrev pub Below : ℕ → List Mark → Type 0
+Below n [] = Unit {0}
+Below n (mark ∷ marks) = (mark.id < n) × Below n marks
+
+-- ---- ascending marks rise
+
+rising_by : (n : ℕ) (marks : List Mark) → ((d : Mark) → 0 < length marks → n ≤ (get_or marks 0 d).id)
+    → ((k : ℕ) → suc k < length (map id_of_mark marks) → get_or (map id_of_mark marks) k 0 < get_or (map id_of_mark marks) (suc k) 0) → RisingFrom n marks
+rising_by n [] first up = tt
+rising_by n (mark ∷ []) first up = (first mark (omega arith), tt)
+rising_by n (mark ∷ (next ∷ marks)) first up = (
+  first mark (omega arith),
+  rising_by (mark.id + 1) (next ∷ marks) (λ d lt. let step : mark.id < next.id = up 0 (omega arith) in omega arith) (λ k lt. up (suc k) (omega arith)),
+)
+
+pub rising : (marks : List Mark) → IsAscending marks → RisingFrom 0 marks
+rising marks up = rising_by 0 marks (λ d lt. omega arith) (λ k lt. rw add-one at (up k (omega arith)))
+
+pub rising_less : (n m : ℕ) (marks : List Mark) → m ≤ n → RisingFrom n marks → RisingFrom m marks
+rising_less n m [] le up = tt
+rising_less n m (mark ∷ marks) le up = (omega arith, up.1)
+
+-- ---- the greatest id
+
+end_from : (n : ℕ) (marks : List Mark) → n ≤ fold (λ (end : ℕ) (mark : Mark). max end (mark.id + 1)) n marks
+end_from n [] = omega arith
+end_from n (mark ∷ marks) = omega (arith, end_from (max n (mark.id + 1)) marks)
+
+below_from : (n end : ℕ) (marks : List Mark) → fold (λ (end : ℕ) (mark : Mark). max end (mark.id + 1)) n marks ≤ end → Below end marks
+below_from n end [] le = tt
+below_from n end (mark ∷ marks) le = (omega (arith, end_from (max n (mark.id + 1)) marks, le), below_from (max n (mark.id + 1)) end marks le)
+
+pub below_end : (marks : List Mark) (end : ℕ) → end_of marks ≤ end → Below end marks
+below_end marks end le = below_from 0 end marks le
+
+-- ---- the mark of an id
+
+pub absent : (n id : ℕ) (marks : List Mark) → id < n → RisingFrom n marks → mark_at marks id ≡ None
+absent n id [] lt up = refl
+absent n id (mark ∷ marks) lt up = rw (ne_eqb mark.id id (omega arith)) (absent (mark.id + 1) id marks (omega arith) up.1)
+
+-- what stands behind an id has none of it, and all others
+pub behind_rises : (id : ℕ) (marks : List Mark) → RisingFrom id marks → RisingFrom (id + 1) (behind id marks)
+behind_rises id [] up = tt
+behind_rises id (mark ∷ marks) up = by (eqb mark.id id) refl
+  where
+    by : (b : Bool) → eqb mark.id id ≡ b → RisingFrom (id + 1) (cond b marks (mark ∷ marks))
+    by true e = rising_less (mark.id + 1) (id + 1) marks (omega (arith, eqb-true mark.id id e)) up.1
+    by false e = (more e, up.1)
+      where
+        more : eqb mark.id id ≡ false → id + 1 ≤ mark.id
+        more e = let other : mark.id ≡ id → ⊥ = λ h. cc (eq-eqb mark.id id h) in omega (arith, up.0)
+
+pub behind_below : (id n : ℕ) (marks : List Mark) → Below n marks → Below n (behind id marks)
+behind_below id n [] below = tt
+behind_below id n (mark ∷ marks) below = by (eqb mark.id id)
+  where
+    by : (b : Bool) → Below n (cond b marks (mark ∷ marks))
+    by true = below.1
+    by false = below
+
+pub behind_same : (id other : ℕ) (marks : List Mark) → (other ≡ id → ⊥) → mark_at (behind id marks) other ≡ mark_at marks other
+behind_same id other [] ne = refl
+behind_same id other (mark ∷ marks) ne = by (eqb mark.id id) refl
+  where
+    by : (b : Bool) → eqb mark.id id ≡ b → mark_at (cond b marks (mark ∷ marks)) other ≡ mark_at (mark ∷ marks) other
+    by true e = let same : mark.id ≡ id = eqb-true mark.id id e in rw (ne_eqb mark.id other (λ h. ne (sym h ∙ same))) refl
+    by false e = refl
+
+pub first_is : (id : ℕ) (marks : List Mark) → RisingFrom id marks → first_of id marks ≡ mark_at marks id
+first_is id [] up = refl
+first_is id (mark ∷ marks) up = by (eqb mark.id id) refl
+  where
+    by : (b : Bool) → eqb mark.id id ≡ b → cond b (Some mark) None ≡ cond b (Some mark) (mark_at marks id)
+    by true e = refl
+    by false e = sym (absent (mark.id + 1) id marks (omega (arith, up.0)) up.1)
+
+-- ---- the marks of a state
+
+ids_same : (rows : List Row) → map id_of_mark (map mark_of rows) ≡ map id_of rows
+ids_same [] = refl
+ids_same (row ∷ rows) = ap (λ (ids : List ℕ). row.id ∷ ids) (ids_same rows)
+
+pub marks_ascend : (state : State) → IsStrictlyIncreasing (map id_of state.rows) → IsAscending (marks_of state)
+marks_ascend state up = subst IsStrictlyIncreasing (sym (ids_same state.rows)) up
 
 -- the change of an id
 abbrev pub change_at : List Mark → List Mark → ℕ → List Shift
@@ -173,3 +269,88 @@ none_of_one (Some m) = rw (same_as_itself m) refl
 pub no_shifts : (marks : List Mark) → shifts_between marks marks ≡ []
 unfolding shifts_between
 no_shifts marks = no_pieces (change_at marks marks) (change_at marks marks) 0 (max (end_of marks) (end_of marks)) (λ id. none_of_one (mark_at marks id))
+
+-- A sum over marks follows the changes: what one id has before and after its change, and then all ids.
+
+pub same_mark_is : (a b : Mark) → same_mark a b ≡ true → a ≡ b
+same_mark_is a b h =
+    let first = and_parts _ _ h in
+    let second = and_parts _ _ first.0 in
+    let third = and_parts _ _ second.0 in
+    let cells = and_parts _ _ third.1 in
+    let id = eqb-true a.id b.id third.0 in
+    let x = eqb-true a.cell.x b.cell.x cells.0 in
+    let z = eqb-true a.cell.z b.cell.z cells.1 in
+    let owner = eqb-true a.owner b.owner second.1 in
+    let template = eqb-true a.template b.template first.1 in
+    λ i. record { id = id i; cell = record { x = x i; z = z i }; owner = owner i; template = template i }
+
+module _ (weight : Mark → ℕ) where
+  -- the weight of a mark, if there is one
+  abbrev weigh : Option Mark → ℕ
+  weigh None = 0
+  weigh (Some mark) = weight mark
+
+  -- the sums over the changes balance the two weights
+  record Balances (before after : ℕ) (shifts : List Shift) : Type 0 where
+    balance : before + sum_by (weight_born weight) shifts ≡ after + sum_by (weight_gone weight) shifts
+    gone : sum_by (weight_gone weight) shifts ≤ before
+
+  one_change : (old new : Option Mark) → Balances (weigh old) (weigh new) (change_of old new)
+  one_change None None = record { balance = refl; gone = omega arith }
+  one_change None (Some new) = record { balance = omega arith; gone = omega arith }
+  one_change (Some old) None = record { balance = omega arith; gone = omega arith }
+  one_change (Some old) (Some new) = by (same_mark old new) refl
+    where
+      by : (b : Bool) → same_mark old new ≡ b → Balances (weight old) (weight new) (cond b [] (gone (Some old) ++ born (Some new)))
+      by true e = let same = ap weight (same_mark_is old new e) in record { balance = omega arith; gone = omega arith }
+      by false e = record { balance = omega arith; gone = omega arith }
+
+  joined : (a a' b b' : ℕ) (xs ys : List Shift) → Balances a b xs → Balances a' b' ys → Balances (a + a') (b + b') (xs ++ ys)
+  joined a a' b b' xs ys p q = record {
+    balance = omega (arith, sum_by-append (weight_born weight) xs ys, sum_by-append (weight_gone weight) xs ys, p.balance, q.balance);
+    gone = omega (arith, sum_by-append (weight_gone weight) xs ys, p.gone, q.gone);
+  }
+
+  -- the sum without the first mark of an id
+  split_off : (id : ℕ) (marks : List Mark) → RisingFrom id marks → sum_by weight marks ≡ weigh (mark_at marks id) + sum_by weight (behind id marks)
+  split_off id [] up = refl
+  split_off id (mark ∷ marks) up = by (eqb mark.id id) refl
+    where
+      by : (b : Bool) → eqb mark.id id ≡ b → sum_by weight (mark ∷ marks) ≡ weigh (cond b (Some mark) (mark_at marks id)) + sum_by weight
+          (cond b marks (mark ∷ marks))
+      by true e = sum_by-cons weight mark marks
+      by false e = let none = ap weigh (absent (mark.id + 1) id marks (let ne : mark.id ≡ id → ⊥ = λ h. true≢false (sym (eq-eqb mark.id id h) ∙ e) in
+          omega (arith, up.0)) up.1) in omega arith
+
+  one_more : (from count : ℕ) → from + suc count ≡ from + 1 + count
+  one_more from count = omega arith
+
+  nothing_left : (n : ℕ) (marks : List Mark) → RisingFrom n marks → Below n marks → marks ≡ []
+  nothing_left n [] up below = refl
+  nothing_left n (mark ∷ marks) up below = absurd (omega (arith, up.0, below.0))
+
+  all_changes : (from count : ℕ) (olds news : List Mark) → RisingFrom from olds → RisingFrom from news → Below (from + count) olds → Below (from + count) news →
+      Balances (sum_by weight olds) (sum_by weight news) (changes olds news from count)
+  all_changes from zero olds news up up' below below' =
+      let none = nothing_left from olds up (rw add-zero at below) in
+      let none' = nothing_left from news up' (rw add-zero at below') in
+      rw (none, none') (record { balance = refl; gone = omega arith })
+  all_changes from (suc count) olds news up up' below below' =
+      let later = all_changes (from + 1) count (behind from olds) (behind from news) (behind_rises from olds up) (behind_rises from news up')
+      (behind_below from (from + 1 + count) olds (subst (λ (n : ℕ). Below n olds) (one_more from count) below))
+      (behind_below from (from + 1 + count) news (subst (λ (n : ℕ). Below n news) (one_more from count) below')) in
+      let same = same_pieces (change_at olds news) (change_at (behind from olds) (behind from news)) (from + 1) count
+      (λ id le. λ i. change_of (sym (behind_same from id olds (λ h. omega arith)) i) (sym (behind_same from id news (λ h. omega arith)) i)) in
+      let here = joined (weigh (mark_at olds from)) (sum_by weight (behind from olds)) (weigh (mark_at news from)) (sum_by weight (behind from news))
+      (change_at olds news from) (changes (behind from olds) (behind from news) (from + 1) count)
+      (one_change (mark_at olds from) (mark_at news from)) later in
+      rw (split_off from olds up, split_off from news up', same) here
+
+pub sum_follows : (weight : Mark → ℕ) (old new : List Mark) → IsAscending old → IsAscending new → SumFollows weight old new (shifts_between old new)
+unfolding shifts_between
+sum_follows weight old new up up' =
+    let end = max (end_of old) (end_of new) in
+    let all = all_changes weight 0 end old new (rising old up) (rising new up') (below_end old (0 + end) (omega arith))
+    (below_end new (0 + end) (omega arith)) in
+    record { balance = all.balance; gone = all.gone; born = omega (arith, all.balance, all.gone) }

@@ -1,8 +1,8 @@
 -- The rows of a valid state lie on the largest ground.
-use Rattle.sim_base.{proofs.GroundPoints.inside_placed, specs.Limits.IsSetup, specs.Rows.template_of, specs.Validity.IsKnownRow}
-use Rattle.sim_base.specs.{Validity.IsValid, Validity.IsValidRow, declared.setup.Setup.Setup, declared.state.Row.Row, declared.state.State.State}
-use Rattle.{sim_base.specs.declared.template.Template.Template, sim_trail.specs.Marks.IsPlacedRow}
-use Rattle.std.proofs.{Common.All, Common.List, Common.MatchOption, Common.None, Common.Option, Common.Some, lemmas.List.Elements.All-weaker}
+use Rattle.sim_base.specs.declared.{state.Row.Row, state.State.State, template.Template.Template}
+use Rattle.sim_base.specs.{Limits.IsKnownRow, Limits.IsSetup, Limits.IsValid, Limits.IsValidRow, Rows.template_of, declared.setup.Setup.Setup}
+use Rattle.std.proofs.{Common.MatchOption, Common.None, Common.Option, Common.Some, lemmas.List.Elements.All-weaker}
+use Rattle.{sim_base.proofs.GroundPoints.inside_placed, sim_trail.specs.Shifts.IsPlacedRow, std.proofs.Common.All, std.proofs.Common.List}
 
 -- a row's template is known
 pub known_row : {P : Template → Type 0} (o : Option Template) → MatchOption o ⊥ P → (t : Template) × P t

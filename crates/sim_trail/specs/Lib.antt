@@ -1,4 +1,2 @@
-pub mod Marks
 pub mod Shifts
-pub mod Sums
 pub mod Merge

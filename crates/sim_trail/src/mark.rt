@@ -1,7 +1,7 @@
 //! What a trail keeps of a row. An entity that moves within a cell, is hurt or takes a target keeps its mark.
 
-ghost use Rattle.{sim_base.specs.Places.IsPlaced, sim_trail.specs.Marks.mark_of as mark_of_row};
 ghost use Rattle.std.specs.Prelude.{◌≡◌};
+ghost use Rattle.{sim_base.specs.Places.IsPlaced, sim_trail.specs.Shifts.mark_of as mark_of_row};
 
 use sim_base::{Cell, Items, Row, cell_of};
 

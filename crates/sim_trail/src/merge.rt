@@ -1,8 +1,8 @@
 //! The changes between two lists of marks: one pass over both, which ascend by id.
 
-ghost use Rattle.std.specs.Prelude.{◌≡◌, IfOk};
-ghost use Rattle.sim_trail.specs.{Marks.IsAscending, Merge.behind as marks_behind, Merge.first_of as first_mark_of, Merge.next_id as next_id_of};
-ghost use Rattle.sim_trail.specs.Shifts.{shifts_between as shifts_from_to};
+ghost use Rattle.std.specs.Prelude.{IfOk, ◌≡◌};
+ghost use Rattle.sim_trail.specs.Merge.{behind as marks_behind, first_of as first_mark_of, next_id as next_id_of};
+ghost use Rattle.sim_trail.specs.Shifts.{IsAscending, shifts_between as shifts_from_to};
 
 use crate::mark::Mark;
 use crate::shift::{Shifts, push_change};

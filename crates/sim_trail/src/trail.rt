@@ -1,8 +1,9 @@
 //! The marks of the last state that was followed.
 
-ghost use Rattle.{sim_base.specs.Rows.id_of, sim_trail.specs.Shifts.shifts_between as shifts_from_to, std.specs.List.Sorted.IsStrictlyIncreasing};
-ghost use Rattle.std.specs.Prelude.{◌≡◌, [], map, IfOk, IsOk, OnOk, OnErr, IsTrue, All};
-ghost use Rattle.sim_trail.specs.Marks.{IsAscending, IsPlacedRow, mark_of as mark_of_row, marks_of as marks_of_state};
+ghost use Rattle.std.specs.List.Sorted.{IsStrictlyIncreasing};
+ghost use Rattle.std.specs.Prelude.{[], All, IfOk, IsOk, IsTrue, map, OnErr, OnOk, ◌≡◌};
+ghost use Rattle.sim_base.specs.Rows.{id_of};
+ghost use Rattle.sim_trail.specs.Shifts.{IsAscending, IsPlacedRow, mark_of as mark_of_row, marks_of as marks_of_state, shifts_between as shifts_from_to};
 
 use crate::mark::{Mark, mark_of};
 use crate::merge::shifts_between;
@@ -19,7 +20,8 @@ pub struct Trail {
 }
 
 impl Model for Trail {
-    ghost use Rattle.{sim_trail.specs.Marks.IsAscending, sim_trail.specs.declared.mark.Mark.Mark, std.specs.Prelude.List};
+    ghost use Rattle.std.specs.Prelude.{List};
+    ghost use Rattle.sim_trail.specs.{Shifts.IsAscending, declared.mark.Mark.Mark};
 
     ghost Value = { List Mark };
 

@@ -1,7 +1,6 @@
 -- What a call that reads a template answers. It may run out of memory, and is else what a definition says.
-use Rattle.std.specs.Prelude.{◌≡◌, Ok, Err, Result}
-use Rattle.sim_traits.specs.declared.fault.TraitFault.{TraitFault}
 use Rattle.sim_traits.specs.declared.fault.TraitFault.TheVariants.{Clash, Missing, OutOfMemory, OutOfRange, UnknownPart}
+use Rattle.{sim_traits.specs.declared.fault.TraitFault.TraitFault, std.specs.Prelude.Err, std.specs.Prelude.Ok, std.specs.Prelude.Result, std.specs.Prelude.◌≡◌}
 
 -- an answer is the wanted one, or memory ran out
 abbrev pub Meets : {X : Type 0} → Result X TraitFault → Result X TraitFault → Type 0

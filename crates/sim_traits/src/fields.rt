@@ -1,10 +1,10 @@
 //! The children of a part: their texts, and the numbers that these spell. A child that may be left out has a text that
 //! stands for it.
 
-ghost use Rattle.{sim_base.specs.Limits.IsFrom, sim_base.specs.Limits.IsRawFrom, sim_tree.specs.Trees.node_of, sim_tree.specs.Trees.value_of};
-ghost use Rattle.{sim_json.specs.Keys.texts_of, sim_traits.specs.Fields.whole_in as whole_in_text};
-ghost use Rattle.std.specs.{List.list_any, Prelude.◌≡◌, Prelude.[], Prelude.is_none, Prelude.IfSome, Prelude.option_map};
-ghost use Rattle.sim_traits.specs.Fields.{lacks as lacks_text, raw_in as raw_in_text, text_at as text_at_node, text_or as text_or_else};
+ghost use Rattle.std.specs.{List.list_any, Prelude.IfSome, Prelude.[], Prelude.is_none, Prelude.option_map, Prelude.◌≡◌};
+ghost use Rattle.sim_traits.specs.Values.{lacks as lacks_text, raw_in as raw_in_text, text_at as text_at_node, text_or as text_or_else};
+ghost use Rattle.{sim_base.specs.Limits.IsFrom, sim_base.specs.Limits.IsRawFrom, sim_json.specs.Keys.texts_of};
+ghost use Rattle.{sim_traits.specs.Values.whole_in as whole_in_text, sim_tree.specs.Trees.node_of, sim_tree.specs.Trees.value_of};
 
 use sim_base::Fixed;
 use sim_tree::Tree;

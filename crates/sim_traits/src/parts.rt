@@ -1,12 +1,12 @@
 //! The parts that are read without memory: a part that is not there gives None, one that lacks a text is refused, and
 //! then one with a text that is out of range.
 
+ghost use Rattle.std.specs.Prelude.{IfOk, IfSome, ◌≡◌, ◌≤◌};
+ghost use Rattle.sim_traits.specs.Values.{accuracy_in as accuracy_in_node, arms_in as arms_in_node, attack_part, base_in as base_in_node};
+ghost use Rattle.sim_traits.specs.Values.{damage_in as damage_in_node, distance_in as distance_in_node, harm_in as harm_in_node, health_in as health_in_node};
+ghost use Rattle.sim_traits.specs.Values.{health_part, level_in as level_in_node, motion_part, obstruct_part, part_of, repeat_in as repeat_in_node};
+ghost use Rattle.sim_traits.specs.Values.{resist_in as resist_in_node, resist_part, side_in as side_in_node, speed_in as speed_in_node};
 ghost use Rattle.{sim_base.specs.Limits.IsArms, sim_base.specs.Limits.IsFrom, sim_base.specs.Limits.IsRawFrom, sim_tree.specs.Trees.node_of};
-ghost use Rattle.std.specs.Prelude.{◌≡◌, ◌≤◌, IfSome, IfOk};
-ghost use Rattle.sim_traits.specs.{Parts.part_of, Table.attack_part, Table.health_part, Table.motion_part, Table.obstruct_part, Table.resist_part};
-ghost use Rattle.sim_traits.specs.Values.{accuracy_in as accuracy_in_node, arms_in as arms_in_node, base_in as base_in_node, damage_in as damage_in_node};
-ghost use Rattle.sim_traits.specs.Values.{distance_in as distance_in_node, harm_in as harm_in_node, health_in as health_in_node, level_in as level_in_node};
-ghost use Rattle.sim_traits.specs.Values.{repeat_in as repeat_in_node, resist_in as resist_in_node, side_in as side_in_node, speed_in as speed_in_node};
 
 use crate::fault::TraitFault;
 use crate::fields::{lacks, raw_in, text_at, text_or, whole_in};

@@ -1,8 +1,8 @@
 //! A whole template, part after part in the order of the table.
 
-ghost use Rattle.{sim_base.specs.Limits.IsTemplate, sim_traits.specs.Meets.Meets, sim_traits.specs.Parts.early_in, sim_traits.specs.Parts.template_in};
-ghost use Rattle.std.specs.Prelude.{◌≡◌, length, IfOk, IfErr};
+ghost use Rattle.std.specs.Prelude.{IfErr, IfOk, length, ◌≡◌};
 ghost use Rattle.sim_tree.specs.Trees.{node_of};
+ghost use Rattle.{sim_base.specs.Limits.IsTemplate, sim_traits.specs.Meets.Meets, sim_traits.specs.Values.early_in, sim_traits.specs.Values.template_in};
 
 use crate::fault::TraitFault;
 use crate::parts::{arms_of, base_of, health_of, resist_of, speed_of};
@@ -24,7 +24,7 @@ const UNARMOURED: Resist = Resist {
 ///
 /// The first refusal is the answer: `UnknownPart`; then for each part, in the order of their numbers, `Missing` and
 /// after it `OutOfRange`; and last `Clash`.
-#[tactic(auto, unfolding(crate::specs::Parts::template_in))]
+#[tactic(auto, unfolding(crate::specs::Values::template_in))]
 pub fn template_of(
     alloc: Global,
     name: &Name,

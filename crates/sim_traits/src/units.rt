@@ -1,9 +1,10 @@
 //! The templates that a template trains, which is the one part that takes memory. The walk over the list ends at the
 //! first word that is no name, and at the 65th that is one.
 
-ghost use Rattle.sim_traits.specs.{Meets.Meets, Parts.part_of, Table.train_part, Units.is_admitted, Units.number_in, Units.units_in as units_in_text};
-ghost use Rattle.{sim_traits.specs.Values.train_in as train_in_node, sim_tree.specs.Tokens.is_word, sim_tree.specs.Trees.node_of, std.specs.List.filter_map};
-ghost use Rattle.std.specs.Prelude.{[], ◌++◌, ◌<◌, ◌∷◌, ◌≡◌, ◌≤◌, All, false, filter, IfOk, IfSome, length, true};
+ghost use Rattle.std.specs.List.{filter_map};
+ghost use Rattle.std.specs.Prelude.{[], All, false, filter, IfOk, IfSome, length, true, ◌++◌, ◌<◌, ◌∷◌, ◌≡◌, ◌≤◌};
+ghost use Rattle.sim_traits.specs.Values.{is_admitted, number_in, part_of, train_in as train_in_node, train_part, units_in as units_in_text};
+ghost use Rattle.{sim_traits.specs.Meets.Meets, sim_tree.specs.Tokens.is_word, sim_tree.specs.Trees.node_of};
 
 use crate::fault::TraitFault;
 use crate::fields::{lacks, text_at};

@@ -1,8 +1,13 @@
 -- Children that ascend by name, one more at a time.
-use Rattle.sim_tree.proofs.Common.{append_assoc, are_sound, children_of, Entry, Global, is_before, is_least, is_sound, IsStrictlySortedBy, keys_of, Less}
-use Rattle.sim_tree.proofs.Common.{list_all, map-append, Node, Value}
-use Rattle.sim_tree.proofs.Common.{◌≡◌, ℕ, Bool, true, ◌&&◌, List, [], ◌∷◌, ◌++◌, map, string_bytes, string_cmp, String, refl, AllByRecursion}
-use Rattle.{sim_base.proofs.Tests.left_true, sim_base.proofs.Tests.right_true, std.proofs.lemmas.Bool.and_from}
+use Rattle.sim_tree.proofs.Common.{SourceMeets, String, string, string_bytes, string_cmp, subst, sym, Tokens, Tree, TreeFault, TreeMeets, true, Value, value_of}
+use Rattle.sim_tree.proofs.Common.{[], Add, AllByRecursion, ap, append_assoc, are_root_members, are_sound, arith, array, as_object, bears, Bool, boolean}
+use Rattle.sim_tree.proofs.Common.{bytes_eq, bytes_eq-Decides, Child, children_in, children_of, codes, Data, Entry, Err, false, get, Global, height, IfOk}
+use Rattle.sim_tree.proofs.Common.{if◌then◌else◌, is_before, is_child_key, is_least, is_node, is_root_key, is_sound, IsStrictlySortedBy, keys_of, kind_of}
+use Rattle.sim_tree.proofs.Common.{length, Less, levels, levels_under, List, list_all, map, map-append, mark_of, max, member, Members, members_height, Mul}
+use Rattle.sim_tree.proofs.Common.{name_in, named_in, nat_lt, nat_tests, next_some, no_members, Node, node, node_in, node_of, nodes_of, None, null, number}
+use Rattle.sim_tree.proofs.Common.{object, of_kind, Ok, Option, option_and_then, Origin, origin_in, origin_of, parent_in, refl, Result, root_in, Some, Source}
+use Rattle.sim_tree.proofs.Common.{ℕ, ◌&&◌, ◌++◌, ◌||◌, ◌∷◌, ◌≡◌, ◌≤◌}
+use Rattle.{sim_base.proofs.Tests.left_true, sim_base.proofs.Tests.right_true, std.proofs.lemmas.Bool.and_from, std.proofs.lemmas.Option.same_Some}
 
 abbrev pub name_of : List ℕ × Node → List ℕ
 name_of p = p.0
@@ -71,3 +76,119 @@ pub ascends-more : (old new : List (List ℕ × Node)) (p : List ℕ × Node) (k
     → ascends (map name_of old ++ key ∷ keys) ≡ true → ascends (map name_of new ++ keys) ≡ true
 ascends-more old new p key keys made named e =
     rw (made, map-append, named, append_assoc) e
+
+-- What an answer of a reader says, in the words of the definitions.
+
+-- a reader that answers has found what is of its kind
+pub kind_ok : {X : Type 0} (fits : Bool) (x y : X) → of_kind fits x ≡ Ok y → (fits ≡ true) × (x ≡ y)
+kind_ok true x y e = (refl, cc)
+kind_ok false x y e = absurd cc
+
+pub bears_add : (value : Option (List ℕ)) (cs : List Child) → 1 ≤ length cs → bears (Some Add) value (nodes_of cs) ≡ false
+bears_add value [] e = absurd (omega arith)
+bears_add value (c ∷ cs) e = refl
+
+pub bears_mul : (value : Option (List ℕ)) (cs : List Child) → 1 ≤ length cs → bears (Some Mul) value (nodes_of cs) ≡ false
+bears_mul value [] e = absurd (omega arith)
+bears_mul value (c ∷ cs) e = refl
+
+pub bears_tokens : (value : Option (List ℕ)) (cs : List Child) → 1 ≤ length cs → bears (Some Tokens) value (nodes_of cs) ≡ false
+bears_tokens value [] e = absurd (omega arith)
+bears_tokens value (c ∷ cs) e = refl
+
+-- a child that is read from the next member
+pub named-more : (old new : List (List ℕ × Node)) (name key : List ℕ) (n : Node) (d : Data) (ms : Members)
+    → is_child_key key ≡ true → new ≡ old ++ (name, n) ∷ [] → name ≡ key → node_in d ≡ n → old ++ named_in (member key d ms) ≡ new ++ named_in ms
+named-more old new name key n d ms child added named read =
+    rw (child, added, named, ← read) (sym (append_assoc old ((key, node_in d) ∷ []) (named_in ms)))
+
+one_of : (P : Type 0) (a b : Bool) → (a || b) ≡ true → (a ≡ true → P) → (b ≡ true → P) → P
+one_of P true b e f g = f refl
+one_of P false b e f g = g e
+
+begins : (key : List ℕ) (text : List ℕ) → is_child_key text ≡ false → bytes_eq key text ≡ true → is_child_key key ≡ false
+begins key text e same = subst (λ k. is_child_key k ≡ false) (sym ((bytes_eq-Decides key text).0 same)) e
+
+-- a key that names a template is none of a child
+pub root_key_alone : (key : List ℕ) → is_root_key key ≡ true → is_child_key key ≡ false
+root_key_alone key e = one_of (is_child_key key ≡ false) (bytes_eq key (codes "@name")) (bytes_eq key (codes "@parent")) e (begins key (codes "@name") refl)
+    (begins key (codes "@parent") refl)
+
+-- A tree has no more levels than the value that it is read from.
+
+-- a child, or none
+either_way : (child : Bool) (k : List ℕ) (n : Node) (ps : List (List ℕ × Node)) (h m : ℕ) → levels n ≤ h → levels_under (children_of ps) ≤ m
+    → levels_under (children_of (if child then (k, n) ∷ ps else ps)) ≤ max h m
+either_way true k n ps h m e f = omega (arith, e, f)
+either_way false k n ps h m e f = omega (arith, e, f)
+
+mutual
+  pub levels_in : (d : Data) → levels (node_in d) ≤ height d
+  levels_in null = omega arith
+  levels_in (boolean b) = omega arith
+  levels_in (number x) = omega arith
+  levels_in (string s) = omega arith
+  levels_in (array ds) = omega arith
+  levels_in (object ms) = omega (arith, levels_in_members ms)
+
+  pub levels_in_members : (ms : Members) → levels_under (children_of (named_in ms)) ≤ members_height ms
+  levels_in_members no_members = omega arith
+  levels_in_members (member k d ms) =
+      either_way (is_child_key k) k (node_in d) (named_in ms) (height d) (members_height ms) (levels_in d) (levels_in_members ms)
+
+-- what is known of a tree that is read of a value of few levels
+pub tree_levels : (r : Result Tree TreeFault) (d : Data) → nat_lt 32 (height d) ≡ false → TreeMeets r (of_kind (is_node d) (node_in d))
+    → IfOk r (λ tree. levels (node_of tree) ≤ 32)
+tree_levels (Ok tree) d e h =
+    let few : height d ≤ 32 = grind (arith, nat_tests) in
+    subst (λ n. levels n ≤ 32) (kind_ok (is_node d) (node_in d) (node_of tree) h).1 (omega (arith, levels_in d))
+tree_levels (Err fault) d e h = tt
+
+-- ---- the root of a source
+
+-- a root without value and mark, and of few levels
+pub record IsRoot (n : Node) : Type 0 where
+  pub value : value_of n ≡ None
+  pub mark : mark_of n ≡ None
+  pub levels : levels n ≤ 32
+
+root_is : (fits : Bool) (name : List ℕ) (parent : Option (List ℕ)) (n : Node) (o : Origin)
+    → (if fits then Some (record { name = name; parent = parent; root = n }) else None) ≡ Some o → n ≡ o.root
+root_is true name parent n o e = ap (λ (p : Origin). p.root) (same_Some _ _ e)
+root_is false name parent n o e = absurd cc
+
+an_object : (d : Data) (ms : Members) → as_object d ≡ Some ms → d ≡ object ms
+an_object null ms e = absurd cc
+an_object (boolean b) ms e = absurd cc
+an_object (number x) ms e = absurd cc
+an_object (string s) ms e = absurd cc
+an_object (array ds) ms e = absurd cc
+an_object (object ns) ms e = ap object (same_Some _ _ e)
+
+origin_root : (d : Data) (o : Origin) → origin_in d ≡ Some o → height d ≤ 32 → IsRoot o.root
+origin_root d o e few =
+    let named = next_some (option_and_then name_in (get (codes "@name") d)) _ o e in
+    let parent = next_some (parent_in (get (codes "@parent") d)) _ o named.2 in
+    let members = next_some (as_object d) (root_in named.0 parent.0) o parent.2 in
+    let root = root_is (are_root_members members.0) named.0 parent.0 (node None None (children_in members.0)) o members.2 in
+    let tall : height (object members.0) ≤ 32 = subst (λ v. height v ≤ 32) (an_object d members.0 members.1) few in
+    subst IsRoot root (record { value = refl; mark = refl; levels = omega (arith, levels_in_members members.0, tall) })
+
+origin_ok : (r : Option Origin) (o : Origin) → kind_of r ≡ Ok o → r ≡ Some o
+origin_ok None o e = absurd cc
+origin_ok (Some p) o e = cc
+
+pub source_root : (r : Result Source TreeFault) (d : Data) → nat_lt 32 (height d) ≡ false → SourceMeets r (kind_of (origin_in d))
+    → IfOk r (λ source. IsRoot (node_of source.tree))
+source_root (Ok source) d e h =
+    let few : height d ≤ 32 = grind (arith, nat_tests) in
+    origin_root d (origin_of source) (origin_ok (origin_in d) (origin_of source) h) few
+source_root (Err fault) d e h = tt
+
+some_levels : (r : Result Source TreeFault) → IfOk r (λ source. IsRoot (node_of source.tree)) → IfOk r (λ source. levels (node_of source.tree) ≤ 32)
+some_levels (Ok source) h = h.levels
+some_levels (Err fault) h = tt
+
+pub source_levels : (r : Result Source TreeFault) (d : Data) → nat_lt 32 (height d) ≡ false → SourceMeets r (kind_of (origin_in d))
+    → IfOk r (λ source. levels (node_of source.tree) ≤ 32)
+source_levels r d e h = some_levels r (source_root r d e h)

@@ -1,7 +1,5 @@
 pub mod Common
 pub mod Heights
 pub mod Ascends
-pub mod Forms
-pub mod Levels
 pub mod Steps
 pub mod Examples

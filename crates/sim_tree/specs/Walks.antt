@@ -1,8 +1,8 @@
 -- What is asked of all values within a value of JSON, wherever they stand: on which levels they lie, and whether a number
 -- is not whole.
-use Rattle.std.specs.Prelude.{ℕ, suc, max, Bool, false, ◌||◌}
 use Rattle.serde_json.specs.Data.{array, boolean, Data, item, Items, member, Members, no_items, no_members, null, number, object, string}
-use Rattle.serde_json.specs.Find.{is_float}
+use Rattle.std.specs.Prelude.{Bool, List, Option, false, max, option_and_then, suc, ℕ, ℤ, ◌||◌}
+use Rattle.{serde_json.specs.Find.is_float, sim_base.specs.NumberText.number_of, sim_tree.specs.Trees.Entry, sim_tree.specs.Trees.Node, sim_tree.specs.Trees.at}
 
 abbrev mutual
   -- how many levels of values there are, the value itself being on the first
@@ -39,3 +39,13 @@ abbrev mutual
   pub members_float : Members → Bool
   members_float no_members = false
   members_float (member k d ms) = has_float d || members_float ms
+
+-- What is read at a path of a tree.
+
+-- the value of what stands at a path
+abbrev pub value_at : Node → List (List ℕ) → Option (List ℕ)
+value_at n path = option_and_then (λ (entry : Entry). entry.value) (at n path)
+
+-- the number that this value spells
+abbrev pub number_at : Node → List (List ℕ) → Option ℤ
+number_at n path = option_and_then number_of (value_at n path)

@@ -1,7 +1,7 @@
 //! What stands at a path of a tree: a value as a text, as a number or as words.
 
-ghost use Rattle.std.specs.Prelude.{◌≡◌, [], IfOk, option_map};
-ghost use Rattle.sim_tree.specs.{Paths.number_at, Paths.value_at, Tokens.tokens_in as tokens_in_value, Trees.node_of, Trees.value_of};
+ghost use Rattle.std.specs.Prelude.{[], IfOk, option_map, ◌≡◌};
+ghost use Rattle.sim_tree.specs.{Tokens.tokens_in as tokens_in_value, Trees.node_of, Trees.value_of, Walks.number_at, Walks.value_at};
 
 use crate::{Names, Tree, tokens_in};
 use sim_base::{Fixed, Name, OutOfMemory};

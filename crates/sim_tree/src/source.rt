@@ -1,11 +1,10 @@
 //! The source of a template: what a match file says of it before its parent's tree is taken into account.
 
-ghost use Rattle.std.specs.Prelude.{◌≡◌, ◌≤◌, true, false, IfSome, IfOk, None, codes, option_and_then};
-ghost use Rattle.serde_json.specs.{Find.get, View.members_view, View.view};
-ghost use Rattle.sim_tree.specs.{Nodes.children_in, Sources.parent_in as parent_in_data, Sources.root_in as root_in_members};
-ghost use Rattle.sim_tree.specs.Reading.{ChildrenMeet, early_source_fault, kind_of, of_kind, source_in, SourceMeets};
-ghost use Rattle.sim_tree.specs.Sources.{are_root_members, begin_root, is_root_key as is_root_key_bytes, name_in as name_in_data, origin_in};
+ghost use Rattle.std.specs.Prelude.{codes, false, IfOk, IfSome, None, option_and_then, true, ◌≡◌, ◌≤◌};
+ghost use Rattle.sim_tree.specs.Nodes.{are_root_members, begin_root, children_in, ChildrenMeet, early_source_fault, is_root_key as is_root_key_bytes, kind_of};
+ghost use Rattle.sim_tree.specs.Nodes.{name_in as name_in_data, of_kind, origin_in, parent_in as parent_in_data, root_in as root_in_members, source_in};
 ghost use Rattle.sim_tree.specs.Trees.{are_sound, is_sound, levels, mark_of, node_of, nodes_of, value_of};
+ghost use Rattle.{serde_json.specs.Find.get, serde_json.specs.View.members_view, serde_json.specs.View.view, sim_tree.specs.Nodes.SourceMeets};
 
 use crate::fault::TreeFault;
 use crate::leaves::is_child_key;
@@ -30,7 +29,7 @@ pub struct Source<'a> {
 impl<'a> Source<'a> {
     /// The source that a value is, or the first refusal that applies. Its tree's root has no mark and no value.
     /// The value lends the texts of the tree.
-    #[tactic(auto, unfolding(crate::specs::Reading::source_in))]
+    #[tactic(auto, unfolding(crate::specs::Nodes::source_in))]
     pub fn from_json(alloc: Global, value: &'a Value) -> Result<Source<'a>, TreeFault>
         ensures source { SourceMeets result (source_in (view value.now)) }
         ensures early { IfSome (early_source_fault (view value.now)) (λ fault. result ≡ Err fault) }

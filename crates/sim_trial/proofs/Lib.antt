@@ -1,4 +1,3 @@
 pub mod Common
-pub mod Pieces
 pub mod OwnedSoldiers
 pub mod Examples

@@ -1,3 +1,2 @@
 pub mod Trial
-pub mod Joined
 pub mod Owned

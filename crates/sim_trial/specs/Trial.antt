@@ -1,8 +1,8 @@
 -- The match of a trial as a text in JSON. Two players are each other's enemies on a ground of 128 by 128 cells, which a
 -- wall with three gaps halves. The soldiers stand where the random word puts them, and walk to the middle.
-use Rattle.std.specs.{Fork.slice_chunk, Int.div_ceil, List.join_with_byte, List.range_with_len, Prelude.decimal, Prelude.filter}
-use Rattle.std.specs.Prelude.{ℕ, zero, suc, ◌+◌, ◌-◌, ◌*◌, ◌/◌, ◌%◌, ◌^◌, ◌<◌, ◌≤◌, Bool, ◌&&◌, List, [], ◌++◌, map, length, if◌then◌else◌, nat_le, ◌==◌, codes}
-use Rattle.sim_base.specs.Numbers.{next_word}
+use Rattle.std.specs.Prelude.{[], Bool, codes, decimal, false, filter, flat_map, if◌then◌else◌, length, List, map, nat_le, suc, true, zero, ℕ, ◌%◌, ◌&&◌, ◌*◌}
+use Rattle.std.specs.{Fork.slice_chunk, Int.div_ceil, List.join_with_byte, List.range_with_len, Prelude.◌++◌, Prelude.◌+◌, Prelude.◌-◌, Prelude.◌/◌}
+use Rattle.{sim_base.specs.Places.next_word, std.specs.Prelude.◌<◌, std.specs.Prelude.◌==◌, std.specs.Prelude.◌^◌, std.specs.Prelude.◌∷◌, std.specs.Prelude.◌≤◌}
 
 -- the limits of a trial: nine digits for the seed, and so many soldiers and turns
 pub record IsTrial (seed units turns : ℕ) : Type 0 where
@@ -97,3 +97,15 @@ abbrev pub text_of_trial : ℕ → ℕ → ℕ → List ℕ
 text_of_trial seed units turns =
     rules_text seed turns ++ (codes ",\"entities\":[" ++ (soldiers_text seed units ++
     (codes "],\"commands\":[" ++ (commands_text units turns ++ codes "]}"))))
+
+-- Pieces of a list that go to a text one by one, with a comma between each two.
+
+-- a comma, where a piece stands before
+abbrev pub comma_after : Bool → List ℕ
+comma_after true = comma ∷ []
+comma_after false = []
+
+-- the pieces, behind others or as the first ones
+abbrev pub joined_after : Bool → List (List ℕ) → List ℕ
+joined_after true pieces = flat_map (λ piece. comma ∷ piece) pieces
+joined_after false pieces = join_with_byte comma pieces

@@ -1,7 +1,7 @@
 //! The comma between two pieces of a list.
 
-ghost use Rattle.std.specs.Prelude.{◌≡◌, ◌++◌, OnOk, string_bytes};
-ghost use Rattle.sim_trial.specs.Joined.{comma_after};
+ghost use Rattle.std.specs.Prelude.{OnOk, string_bytes, ◌++◌, ◌≡◌};
+ghost use Rattle.sim_trial.specs.Trial.{comma_after};
 
 use sim_base::OutOfMemory;
 

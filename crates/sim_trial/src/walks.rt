@@ -1,8 +1,8 @@
 //! The orders of a trial: in the first turn each player sends all of his soldiers to the middle of the ground, in groups
 //! that a command has room for.
 
-ghost use Rattle.std.specs.{List.join_with_byte, Prelude.◌≡◌, Prelude.◌≤◌, Prelude.◌++◌, Prelude.map, Prelude.OnOk, Prelude.string_bytes, Prelude.decimal};
-ghost use Rattle.sim_trial.specs.{Joined.joined_after, Owned.id_at, Owned.ids_between, Trial.comma, Trial.commands_text, Trial.walk_text, Trial.walks_of};
+ghost use Rattle.std.specs.{List.join_with_byte, Prelude.OnOk, Prelude.decimal, Prelude.map, Prelude.string_bytes, Prelude.◌++◌, Prelude.◌≡◌, Prelude.◌≤◌};
+ghost use Rattle.sim_trial.specs.{Owned.id_at, Owned.ids_between, Trial.comma, Trial.commands_text, Trial.joined_after, Trial.walk_text, Trial.walks_of};
 
 use crate::comma::push_comma;
 use sim_base::OutOfMemory;

@@ -1,14 +1,14 @@
 -- A state whose rows all rest goes through the phases as it is.
-use Rattle.std.proofs.Common.{Bool, cond, ◌++◌, ℤ, Some, None, flat_map, Option}
-use Rattle.std.proofs.lemmas.{Bool.and_parts, Bool.not-true, Bool.true≢false, List.Concat.flat_map-cons}
-use Rattle.sim_base.specs.{Aim.is_idle, Aim.lets_go, Rows.arms_of, Rows.id_of, Rows.row_of, Rows.speed_of, Rows.target_of, Validity.IsLooselyValid}
-use Rattle.sim_base.specs.{Changes.applied_all, Changes.removed, Hit.fights, Hit.gone, Hit.Hit, Hit.Hitting, Hit.hitting, Hit.is_spent, Hit.taken_from}
+use Rattle.sim_base.specs.Turn.{Hit, Hitting, fights, gone, hitting, is_idle, is_spent, lets_go, taken_from}
 use Rattle.sim_base.specs.declared.{change.Change.Change, change.Change.TheVariants.Word, state.Aim.Aim, state.Motion.Motion, state.Row.Row}
-use Rattle.sim_plans.proofs.{AimPlan.aim_plan_is, HitPlan.hit_plan_is, MovePlan.move_plan_is}
-use Rattle.sim_plans.specs.{Plans.move_changes_by, Plans.move_changes_of, Plans.next_target, RowPlans.halt_changes, RowPlans.target_changes}
-use Rattle.sim_plans.specs.Plans.{aim_changes_by, aim_changes_of, fight_changes_by, fight_changes_of, hit_plan, hurt_changes_by, hurt_changes_of}
-use Rattle.sim_turn.{proofs.Common.◌∙◌, specs.Resting.is_resting_by}
-use Rattle.sim_turn.proofs.Common.{◌≡◌, ℕ, true, false, List, [], ◌∷◌, map, fold, filter, refl, aimed, ap, hit, is_resting, list_all, moved, Setup, State, sym}
+use Rattle.sim_base.specs.{Commands.applied_all, Commands.removed, Limits.IsLooselyValid, Rows.arms_of, Rows.id_of, Rows.row_of, Rows.speed_of, Rows.target_of}
+use Rattle.sim_plans.proofs.{AimPlan.aim_plan_is, MovePlan.move_plan_is, RowByRow.hit_plan_is}
+use Rattle.sim_plans.specs.Plans.{aim_changes_by, aim_changes_of, fight_changes_by, fight_changes_of, halt_changes, hit_plan, hurt_changes_by, hurt_changes_of}
+use Rattle.sim_plans.specs.Plans.{move_changes_by, move_changes_of, next_target, target_changes}
+use Rattle.sim_turn.proofs.Common.{[], aimed, ap, false, filter, fold, hit, is_resting, List, list_all, map, moved, refl, Setup, State, sym, true, ℕ, ◌∙◌, ◌∷◌}
+use Rattle.sim_turn.{proofs.Common.◌≡◌, specs.Resting.is_resting_by}
+use Rattle.std.proofs.Common.{Bool, cond, flat_map, None, Option, Some, ℤ, ◌++◌}
+use Rattle.std.proofs.lemmas.{Bool.and_parts, Bool.not-true, Bool.true≢false, List.Concat.flat_map-cons}
 
 -- what is known of a row that rests
 record Rests (row : Row) : Type 0 where

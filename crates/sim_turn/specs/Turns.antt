@@ -1,10 +1,9 @@
 -- What a board is asked for a turn or a part of it, and what becomes of it: the facts of each call by name. A clause passes
 -- ⟦<dyn System as System>⟧ for `sys`.
-use Rattle.std.specs.Prelude.{◌≡◌, ℕ, ◌<◌, ◌≤◌, List, OnOk, All, Result}
-use Rattle.sim_base.specs.{Validity.IsValid, declared.command.PlayerCommand.PlayerCommand, declared.state.State.State}
-use Rattle.sim_board.specs.{BoardWords.AreKept, BoardWords.IsWholeBy, BoardWords.setup_in, BoardWords.state_in, declared.board.Board.Board}
-use Rattle.{sim_laws.specs.CommandLaws.IsOrderOf, sim_system.specs.Meanings.Meaning, sim_system.specs.RigWords.systems_by}
-use Rattle.sim_system.specs.declared.system.System.{Ghosts}
+use Rattle.sim_board.specs.{Boards.AreKept, Boards.IsWholeBy, Boards.setup_in, Boards.state_in, declared.board.Board.Board}
+use Rattle.std.specs.Prelude.{All, List, OnOk, Result, ℕ, ◌<◌, ◌≡◌, ◌≤◌}
+use Rattle.{sim_base.specs.Limits.IsValid, sim_base.specs.declared.state.State.State, sim_laws.specs.TurnLaws.IsOrderOf, sim_system.specs.Meanings.Meaning}
+use Rattle.{sim_base.specs.declared.command.PlayerCommand.PlayerCommand, sim_system.specs.RigWords.systems_by, sim_system.specs.declared.system.System.Ghosts}
 
 -- ---- before
 

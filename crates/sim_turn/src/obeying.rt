@@ -1,8 +1,7 @@
 //! One command: its changes are planned from the state as it is, and then they are made.
 
-ghost use Rattle.sim_base.specs.Commands.{commanded};
-ghost use Rattle.sim_board.specs.BoardWords.{setup_in, state_in};
-ghost use Rattle.sim_turn.specs.Turns.{GoesOnTo, MayObey};
+ghost use Rattle.sim_turn.specs.Turns.{MayObey};
+ghost use Rattle.{sim_base.specs.Commands.commanded, sim_board.specs.Boards.setup_in, sim_board.specs.Boards.state_in, sim_turn.specs.Turns.GoesOnTo};
 
 use sim_base::{OutOfMemory, PlayerCommand};
 use sim_board::{Board, apply_all};

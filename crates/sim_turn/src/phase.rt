@@ -1,8 +1,8 @@
 //! The phases of a turn behind its commands: the changes of each are planned from the state as it is, and then they are made.
 
-ghost use Rattle.{sim_board.specs.BoardWords.IsWhole, sim_board.specs.BoardWords.setup_in, sim_board.specs.BoardWords.state_in, std.specs.Result.ForOk};
-ghost use Rattle.sim_plans.specs.{PlanLaws.IsPlanOf, SceneWords.Stands};
-ghost use Rattle.sim_turn.specs.{Phases.phased, Turns.GoesOnTo};
+ghost use Rattle.std.specs.Result.{ForOk};
+ghost use Rattle.{sim_board.specs.Boards.IsWhole, sim_board.specs.Boards.setup_in, sim_board.specs.Boards.state_in, sim_plans.specs.Plans.IsPlanOf};
+ghost use Rattle.{sim_plans.specs.SceneWords.Stands, sim_turn.specs.Phases.phased, sim_turn.specs.Turns.GoesOnTo};
 
 use sim_attack::{aim_changes, gone_changes, hit_changes};
 use sim_base::{Changes, OutOfMemory};

@@ -1,8 +1,8 @@
 //! Turns with the match's own commands.
 
-ghost use Rattle.std.specs.Prelude.{◌-◌, map, fold};
+ghost use Rattle.std.specs.Prelude.{fold, map, ◌-◌};
 ghost use Rattle.sim_base.specs.{Commands.commanded, Turn.from, Turn.own_turns, declared.setup.Timed.Timed as AnyTimed};
-ghost use Rattle.sim_board.specs.BoardWords.{setup_in, state_in};
+ghost use Rattle.sim_board.specs.Boards.{setup_in, state_in};
 ghost use Rattle.sim_turn.specs.Turns.{GoesOnTo, MayObeyAll, MayPlayUntil, PlaysTo};
 
 use crate::{due_at, obey, run_phases};

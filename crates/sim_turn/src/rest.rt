@@ -1,7 +1,7 @@
 //! Whether anybody can act. A turn of a match that has buildings alone goes over its rows once, and not once in each phase.
 
-ghost use Rattle.{sim_base.specs.Hit.is_spent, sim_turn.specs.Resting.is_resting};
-ghost use Rattle.std.specs.{List.list_all, Prelude.◌≡◌, Prelude.not};
+ghost use Rattle.std.specs.{List.list_all, Prelude.not, Prelude.◌≡◌};
+ghost use Rattle.{sim_base.specs.Turn.is_spent, sim_turn.specs.Resting.is_resting};
 
 use sim_base::Row;
 

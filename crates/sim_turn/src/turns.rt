@@ -1,8 +1,8 @@
 //! A turn with its commands.
 
 ghost use Rattle.std.specs.Prelude.{[], fold};
-ghost use Rattle.sim_base.specs.{Aim.aimed, Commands.commanded, Hit.gone, Hit.hit, Move.moved, Turn.turn as turn_by};
-ghost use Rattle.sim_board.specs.BoardWords.{IsWhole, setup_in, state_in};
+ghost use Rattle.sim_base.specs.{Commands.commanded, Turn.aimed, Turn.gone, Turn.hit, Turn.moved, Turn.turn as turn_by};
+ghost use Rattle.sim_board.specs.Boards.{IsWhole, setup_in, state_in};
 ghost use Rattle.sim_turn.specs.Turns.{GoesOnTo, MayEndTurn, MayObeyAll, MayPlay, PlaysTo};
 
 use crate::obeying::obey;

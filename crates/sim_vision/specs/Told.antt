@@ -1,6 +1,6 @@
 -- What is told of a sight: a line for each player, and the file of explored cells.
-use Rattle.std.specs.Prelude.{ℕ, Bool, List, ◌++◌, map, nat_lt, codes, decimal, count_by, flat_map}
-use Rattle.sim_vision.specs.{Common.Cell, Common.cells_of, Common.Setup, Common.size_of, Spans.one_if, Vision.part_of, Vision.players_of, Vision.Vision}
+use Rattle.sim_vision.specs.{Common.Cell, Common.Setup, Common.cells_of, Common.size_of, Vision.Vision, Vision.part_of, Vision.players_of, Watching.one_if}
+use Rattle.std.specs.Prelude.{Bool, codes, count_by, decimal, flat_map, List, map, nat_lt, ℕ, ◌++◌}
 
 -- how many cells a player sees, and how many he has explored
 abbrev pub sight_line : ℕ → ℕ → ℕ → List ℕ

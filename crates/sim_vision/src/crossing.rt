@@ -1,7 +1,7 @@
 //! What changes of an entity at a time: the mark that it leaves, and the mark that it takes.
 
-ghost use Rattle.std.specs.Prelude.{◌≡◌, ℕ, ◌<◌, ◌≤◌, false, ◌⊎◌, [], length, IfSome, MatchOption};
-ghost use Rattle.sim_vision.specs.{Common.Cell as ACell, Spans.IsSpanWhere, Watching.BeginsFrom, Watching.BeginsWith, Watching.is_near};
+ghost use Rattle.std.specs.Prelude.{[], false, IfSome, length, MatchOption, ℕ, ◌<◌, ◌≡◌, ◌≤◌, ◌⊎◌};
+ghost use Rattle.sim_vision.specs.{Common.Cell as ACell, Watching.BeginsFrom, Watching.BeginsWith, Watching.IsSpanWhere, Watching.is_near};
 
 use crate::disc::Disc;
 use crate::span::Span;

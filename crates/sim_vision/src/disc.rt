@@ -1,8 +1,8 @@
 //! The cells that an entity sees: a disc about its cell. The width of each of its rows is reckoned once, for all entities of a
 //! template.
 
-ghost use Rattle.std.specs.Prelude.{◌≡◌, ℕ, ◌+◌, ◌-◌, ◌*◌, ◌<◌, ◌≤◌, false, IfOk};
-ghost use Rattle.sim_vision.specs.{Common.Cell as ACell, Common.IsRoot, Spans.AreHalves, Spans.IsSpanWhere, Vision.is_in_disc};
+ghost use Rattle.std.specs.Prelude.{false, IfOk, ℕ, ◌*◌, ◌+◌, ◌-◌, ◌<◌, ◌≡◌, ◌≤◌};
+ghost use Rattle.sim_vision.specs.{Common.Cell as ACell, Common.IsRoot, Vision.is_in_disc, Watching.AreHalves, Watching.IsSpanWhere};
 
 use crate::span::Span;
 use sim_base::{Cell, OutOfMemory, root};
@@ -17,7 +17,8 @@ pub struct Disc {
 }
 
 impl Model for Disc {
-    ghost use Rattle.{sim_vision.specs.Spans.AreHalves, std.specs.Prelude.ℕ};
+    ghost use Rattle.std.specs.Prelude.{ℕ};
+    ghost use Rattle.sim_vision.specs.Watching.{AreHalves};
 
     ghost Value = { ℕ };
 

@@ -1,7 +1,7 @@
 //! How many marks of each player see each cell, and which cells each player has explored: two lists by player, then z, then x.
 
-ghost use Rattle.std.specs.Prelude.{◌≡◌, ◌*◌, map, length, vec_len};
-ghost use Rattle.sim_vision.specs.{Joining.is_set, Watching.IsExtent};
+ghost use Rattle.std.specs.Prelude.{length, map, vec_len, ◌*◌, ◌≡◌};
+ghost use Rattle.sim_vision.specs.{Vision.is_set, Watching.IsExtent};
 
 use crate::crossing::{Crossing, next_crossing, rows_of, span_of};
 use crate::disc::Disc;
@@ -24,11 +24,11 @@ pub struct Fog {
 }
 
 impl Fog {
-    ghost use Rattle.{sim_vision.specs.Joining.is_missed, sim_vision.specs.Joining.is_set, sim_vision.specs.Spans.one_if, std.specs.List.zip};
-    ghost use Rattle.std.specs.Prelude.{◌≡◌, ◌+◌, ◌-◌, ◌*◌, ◌<◌, ◌≤◌, false, map, length, replicate, IfOk, slice_range, All};
-    ghost use Rattle.sim_vision.specs.{Common.list_any, Fogs.extent_of, Fogs.IsSameExtent, Fogs.Turns, Fogs.TurnsAt, Watching.start_of};
-    ghost use Rattle.sim_vision.specs.Watching.{IsPlayerOf, IsRowOf};
+    ghost use Rattle.std.specs.List.{zip};
+    ghost use Rattle.std.specs.Prelude.{All, false, IfOk, length, map, replicate, slice_range, ◌*◌, ◌+◌, ◌-◌, ◌<◌, ◌≡◌, ◌≤◌};
     ghost use Rattle.sim_vision.specs.Watching.{AreLit, CanFollow, CanTurn, CanTurnAt, HasFollowed, IsExtent, IsKnownCrossing, IsKnownShift, IsOwnedBy};
+    ghost use Rattle.sim_vision.specs.Watching.{IsPlayerOf, IsRowOf, one_if, start_of};
+    ghost use Rattle.sim_vision.specs.{Common.list_any, Fogs.IsSameExtent, Fogs.Turns, Fogs.TurnsAt, Fogs.extent_of, Vision.is_missed, Vision.is_set};
 
     /// Nothing is seen, and nothing explored.
     pub fn new(alloc: Global, width: u16, depth: u16, players: u8) -> Result<Fog, OutOfMemory>

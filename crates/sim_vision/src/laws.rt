@@ -1,9 +1,8 @@
 //! What a sight comes to over any list of states, as the contracts of functions that do nothing.
 
-ghost use Rattle.std.specs.Prelude.{◌≡◌, ℕ, ◌*◌, ◌||◌, List, ◌∷◌, map, length};
-ghost use Rattle.sim_vision.specs.{After.all_seen, After.blind, After.joined_at, After.last_of, After.vision_after, After.was_visible, Keeping.extent_in};
-ghost use Rattle.sim_vision.specs.{Common.Setup, Common.State, Vision.all_counts, Vision.cells_in, Vision.explored_with, Vision.is_visible, Vision.Vision};
-ghost use Rattle.sim_vision.specs.{Joining.is_set, Told.sight_lines, Told.sight_text, Watching.flag_in};
+ghost use Rattle.std.specs.Prelude.{length, List, map, ℕ, ◌*◌, ◌||◌, ◌∷◌, ◌≡◌};
+ghost use Rattle.sim_vision.specs.Vision.{all_counts, all_seen, blind, cells_in, explored_with, is_set, is_visible, joined_at, last_of, Vision, vision_after};
+ghost use Rattle.sim_vision.specs.{Common.Setup, Common.State, Keeping.extent_in, Told.sight_lines, Told.sight_text, Vision.was_visible, Watching.flag_in};
 
 /// After any list of states the counts are those of the last one's rows.
 pub fn counts_are_of_the_last_state()

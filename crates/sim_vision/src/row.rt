@@ -1,8 +1,8 @@
 //! A row of the ground, as a part of a list of counts and a list of flags, and what becomes of it where the span that a mark
 //! sees there changes. Cells that are in both spans are not touched.
 
-ghost use Rattle.std.specs.Prelude.{◌≡◌, ℕ, ◌+◌, ◌<◌, ◌≤◌, true, false, not, ◌&&◌, ◌||◌, length, slice_index, slice_index_or};
-ghost use Rattle.sim_vision.specs.{Spans.CanRaise, Spans.is_in_row, Spans.is_within, Spans.IsSpanOf, Spans.one_if, Watching.IsRowTurned};
+ghost use Rattle.std.specs.Prelude.{false, length, not, slice_index, slice_index_or, true, ℕ, ◌&&◌, ◌+◌, ◌<◌, ◌||◌, ◌≡◌, ◌≤◌};
+ghost use Rattle.sim_vision.specs.Watching.{CanRaise, is_in_row, is_within, IsRowTurned, IsSpanOf, one_if};
 
 use crate::span::Span;
 

@@ -1,11 +1,11 @@
 //! What all players see and have seen, kept from state to state.
 
-ghost use Rattle.sim_vision.specs.After.{all_seen, blind, joined_at, last_of, vision_after, vision_next};
-ghost use Rattle.sim_vision.specs.Common.{IsSetup, IsValid, list_all, list_any, Row as AnyRow, State as AnyState};
-ghost use Rattle.sim_vision.specs.{Joining.is_bit, Joining.is_missed, Joining.is_set, Joining.refusal_of, Told.explored_file, Vision.all_counts};
-ghost use Rattle.{sim_vision.specs.Vision.cells_in, sim_vision.specs.Vision.explored_with, sim_vision.specs.Vision.part_of, std.specs.List.zip};
-ghost use Rattle.std.specs.Prelude.{◌*◌, ◌∷◌, ◌≡◌, ◌≤◌, ◌⊎◌, All, Err, false, IfErr, IfOk, length, List, map, None, OnErr, OnOk, Some, take, true, ℕ};
 ghost use Rattle.sim_vision.specs.declared.fault.SightFault.TheVariants as faults;
+ghost use Rattle.std.specs.List.{zip};
+ghost use Rattle.std.specs.Prelude.{All, Err, false, IfErr, IfOk, length, List, map, None, OnErr, OnOk, Some, take, true, ℕ, ◌*◌, ◌∷◌, ◌≡◌, ◌≤◌, ◌⊎◌};
+ghost use Rattle.sim_vision.specs.Common.{IsSetup, IsValid, Row as AnyRow, State as AnyState, list_all, list_any};
+ghost use Rattle.sim_vision.specs.Vision.{all_counts, all_seen, blind, cells_in, explored_with, is_bit, is_missed, is_set, joined_at, last_of, part_of};
+ghost use Rattle.sim_vision.specs.{Told.explored_file, Vision.refusal_of, Vision.vision_after, Vision.vision_next};
 
 use crate::disc::Disc;
 use crate::fault::SightFault;

@@ -1,4 +1,3 @@
 pub mod Common
-pub mod Telling
 pub mod Listing
 pub mod Aiming

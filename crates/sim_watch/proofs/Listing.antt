@@ -1,13 +1,66 @@
 -- A list of entities and their targets: where one stands, and what the list stands for after an edit there.
-use Rattle.{sim_fact_lists.proofs.Rising.ascends, sim_fact_lists.specs.Places.Belongs, sim_fact_lists.specs.Places.Stands, sim_watch.specs.Aimers.aim_in}
-use Rattle.std.proofs.Common.{zero, suc, ◌<◌, ◌≤◌, length, get_or, set, inl, inr}
-use Rattle.std.proofs.lemmas.{Bool.cases_lt, Bool.Decides.nat_tests, Cmp.ranked, List.get_or-map, List.length-map, List.map-set, List.take_all}
-use Rattle.std.specs.{Ordering.nat_cmp, Ordering.ordering_index, Prelude.is_ok, Prelude.IsOk, Prelude.MatchResult}
-use Rattle.std.specs.List.{insert, remove, Sorted.IsBinarySearchResult, Sorted.IsNonDecreasingBy, Sorted.IsSearchInRange, Sorted.IsStrictlyIncreasing}
+use Rattle.sim_fact_lists.proofs.OneFact.{Above, above_kept, after_is, ascends, found_put, missing_above, without_missing}
 use Rattle.sim_fact_lists.proofs.Standing.{found_there, missing_there, nothing_new, put_new, put_nothing, put_over, rises}
-use Rattle.sim_watch.proofs.{Common.sym, Common.told_in, Common.Watch, Common.with_only, Common.◌∙◌, Telling.found_kept, Telling.kept_only}
-use Rattle.sim_watch.proofs.Common.{arith, Ascend, cons_option, Fact, fact_with, facts_in, id_of_fact, kept, kept_of, missing_found, replaced, rising, subst}
-use Rattle.sim_watch.proofs.Common.{◌≡◌, ℕ, cond, List, [], ◌∷◌, map, take, Some, None, Ok, Err, Option, Result, option_and_then, refl, aim_of, Aimer, ap}
+use Rattle.sim_watch.proofs.Common.{[], aim_of, Aimer, ap, arith, Ascend, Bool, cond, cons_option, Err, Fact, fact_with, facts_in, false, id_of_fact, kept}
+use Rattle.sim_watch.proofs.Common.{kept_id, kept_of, List, map, missing_found, None, not, Ok, Option, option_and_then, refl, replaced, Result, Rising, rising}
+use Rattle.sim_watch.proofs.Common.{rising_kept, Some, subst, sym, take, told_in, true, Watch, with_only, ℕ, ◌==◌, ◌∙◌, ◌∷◌, ◌≡◌}
+use Rattle.std.proofs.Common.{set, suc, zero, ◌<◌, ◌≤◌}
+use Rattle.std.proofs.lemmas.{Bool.Decides.nat_tests, Bool.cases_lt, Bool.eqb-true, Cmp.ranked, List.get_or-map, List.length-map, List.map-set, List.take_all}
+use Rattle.std.specs.List.{Sorted.IsBinarySearchResult, Sorted.IsNonDecreasingBy, Sorted.IsSearchInRange, Sorted.IsStrictlyIncreasing, insert, remove}
+use Rattle.std.specs.{Ordering.nat_cmp, Ordering.ordering_index, Prelude.IsOk, Prelude.MatchResult, Prelude.is_ok}
+use Rattle.{sim_fact_lists.specs.Changes.Belongs, sim_fact_lists.specs.Changes.Stands, sim_system.specs.Notes.without, sim_system.specs.declared.kind.Kind.Kind}
+use Rattle.{sim_watch.specs.Aimers.aim_in, std.proofs.Common.get_or, std.proofs.Common.inl, std.proofs.Common.inr, std.proofs.Common.length}
+
+-- What is kept of a list of facts of which one is replaced.
+
+-- what is kept of an id is what is kept of its fact
+pub found_kept : (kind : Kind) (id : ℕ) (facts : List Fact) → Rising facts → fact_with (kept_of kind facts) id ≡ option_and_then (kept kind)
+    (fact_with facts id)
+found_kept kind id [] r = refl
+found_kept kind id (f ∷ facts) r = by (kept kind f) (f.id == id) refl refl (kept_id kind f) (found_kept kind id facts r.1)
+  where
+    gone : (f.id == id) ≡ true → fact_with (kept_of kind facts) id ≡ None
+    gone e = missing_found id (kept_of kind facts)
+        (missing_above id (kept_of kind facts) (above_kept kind id facts (subst (λ (n : ℕ). Above n facts) (eqb-true f.id id e) r.0)))
+
+    by : (o : Option Fact) (b : Bool) → kept kind f ≡ o → (f.id == id) ≡ b → ((p : Fact) → o ≡ Some p → p.id ≡ f.id) → fact_with (kept_of kind facts) id ≡
+        option_and_then (kept kind) (fact_with facts id) →
+        fact_with (cons_option o (kept_of kind facts)) id ≡ option_and_then (kept kind) (cond b (Some f) (fact_with facts id))
+    by None true k e named rest = gone e ∙ sym k
+    by None false k e named rest = rest
+    by (Some p) true k e named rest = let here : (p.id == id) ≡ true = ap (λ (n : ℕ). n == id) (named p refl) ∙ e in rw here (sym k)
+    by (Some p) false k e named rest = let here : (p.id == id) ≡ false = ap (λ (n : ℕ). n == id) (named p refl) ∙ e in rw here rest
+
+-- an id is taken out before or after
+without_kept : (kind : Kind) (id : ℕ) (facts : List Fact) → kept_of kind (without id facts) ≡ without id (kept_of kind facts)
+without_kept kind id [] = refl
+without_kept kind id (f ∷ facts) = by (kept kind f) (f.id == id) refl refl (kept_id kind f) (without_kept kind id facts)
+  where
+    by : (o : Option Fact) (b : Bool) → kept kind f ≡ o → (f.id == id) ≡ b → ((p : Fact) → o ≡ Some p → p.id ≡ f.id) → kept_of kind (without id facts) ≡
+        without id (kept_of kind facts) →
+        kept_of kind (cond (not b) (f ∷ without id facts) (without id facts)) ≡ without id (cons_option o (kept_of kind facts))
+    by None true k e named rest = rest
+    by None false k e named rest = ap (λ (o : Option Fact). cons_option o (kept_of kind (without id facts))) k ∙ rest
+    by (Some p) true k e named rest = let here : (p.id == id) ≡ true = ap (λ (n : ℕ). n == id) (named p refl) ∙ e in rw here rest
+    by (Some p) false k e named rest =
+        let here : (p.id == id) ≡ false = ap (λ (n : ℕ). n == id) (named p refl) ∙ e in
+        rw here (ap (λ (o : Option Fact). cons_option o (kept_of kind (without id facts))) k ∙ ap (λ (fs : List Fact). p ∷ fs) rest)
+
+-- where one fact is replaced, what is kept of it is
+pub kept_only : (kind : Kind) (id : ℕ) (o : Option Fact) (facts : List Fact) → ((f : Fact) → o ≡ Some f → f.id ≡ id) → Rising facts
+    → kept_of kind (with_only id o facts) ≡ with_only id (option_and_then (kept kind) o) (kept_of kind facts)
+kept_only kind id o facts named r =
+    let only = replaced id o facts named r in
+    let there : fact_with (kept_of kind (with_only id o facts)) id ≡ option_and_then (kept kind) o =
+    found_kept kind id (with_only id o facts) only.later ∙ ap (option_and_then (kept kind))
+    (found_put id o (without id facts) named (without_missing id facts)) in
+    sym
+    (ap (λ (p : Option Fact). with_only id p (kept_of kind facts)) (sym there)
+    ∙ after_is id (kept_of kind facts) (kept_of kind (with_only id o facts)) (record {
+      before = rising_kept kind facts r;
+      later = rising_kept kind (with_only id o facts) only.later;
+      same = sym (without_kept kind id (with_only id o facts)) ∙ ap (kept_of kind) only.same ∙ without_kept kind id facts;
+    }))
 
 -- stands for an entity past the end
 abbrev nobody : Aimer

@@ -1,6 +1,8 @@
 -- What a list of entities and their targets stands for.
-use Rattle.{sim_watch.specs.declared.aimer.Aimer.Aimer, std.specs.Prelude.List, std.specs.Prelude.map}
-use Rattle.sim_system.specs.{Facts.kept_of, Notes.aim_of, declared.fact.Fact.Fact, declared.kind.Kind.TheVariants.Watch}
+use Rattle.sim_fact_lists.specs.{Changes.with_only, Groups.HasRoom, declared.group.Group.Group}
+use Rattle.sim_system.specs.{Notes.aim_of, Notes.fact_with, Notes.kept, Notes.kept_of, declared.fact.Fact.Fact, declared.kind.Kind.TheVariants.Watch}
+use Rattle.sim_watch.specs.declared.aimer.Aimer.{Aimer}
+use Rattle.std.specs.Prelude.{List, map, Option, ℕ, ◌≡◌}
 
 -- an entity of which only its target is told
 abbrev pub aim_in : Aimer → Fact
@@ -13,3 +15,18 @@ told_in aimers = map aim_in aimers
 -- what is kept of them: those that have a target
 abbrev pub facts_in : List Aimer → List Fact
 facts_in aimers = kept_of Watch (told_in aimers)
+
+-- an entity had this target, or none, and this is kept of it now
+pub record Aims (id had : ℕ) (now : Option Fact) (old new : List Aimer) : Type 0 where
+  pub target : fact_with (facts_in old) id ≡ kept Watch (aim_of id had)
+  pub facts : facts_in new ≡ with_only id now (facts_in old)
+
+-- The list that is kept of each target.
+
+-- an entity is listed under its target
+abbrev pub aim_key : Fact → ℕ
+aim_key fact = fact.target
+
+-- there is room for one more who aims at a target, if it is one
+abbrev pub HasRoomFor : ℕ → List Group → Type 0
+HasRoomFor target groups = (target ≡ 0 → ⊥) → HasRoom target groups

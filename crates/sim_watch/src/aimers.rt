@@ -1,10 +1,10 @@
 //! The target of each entity, in a list by id. One that has no target stays there until it is gone, so that nothing moves along
 //! the list when it takes the next. An entity is looked for first where the last one was found, and a little behind it.
 
-ghost use Rattle.std.specs.Prelude.{◌≡◌, ◌<◌, [], IfSome, IfOk, OnOk, MatchResult, None, vec_len, vec_capacity};
-ghost use Rattle.sim_fact_lists.specs.Places.{Ascend, Belongs, Stands, with_only};
-ghost use Rattle.sim_system.specs.{Facts.kept, Facts.kept_of, Notes.aim_of, Notes.fact_with, declared.kind.Kind.TheVariants.Watch as WatchKind};
-ghost use Rattle.sim_watch.specs.Aimers.{facts_in, told_in};
+ghost use Rattle.std.specs.Prelude.{[], IfOk, IfSome, MatchResult, None, OnOk, vec_capacity, vec_len, ◌<◌, ◌≡◌};
+ghost use Rattle.sim_fact_lists.specs.Changes.{Ascend, Belongs, Stands, with_only};
+ghost use Rattle.sim_system.specs.{Notes.aim_of, Notes.kept, Notes.kept_of, declared.kind.Kind.TheVariants.Watch as WatchKind};
+ghost use Rattle.sim_watch.specs.Aimers.{Aims, facts_in, told_in};
 
 use crate::aimer::Aimer;
 use sim_base::OutOfMemory;
@@ -87,8 +87,7 @@ impl Aimers {
     /// An entity has this target, or none. The room was made before. Answers the target that it had, or 0.
     pub fn aim(&mut self, id: u32, target: u32) -> u32
         requires { vec_len self.old.aimers < vec_capacity self.old.aimers }
-        ensures target { fact_with (facts_in self.old.aimers.items) id ≡ kept WatchKind (aim_of id result) }
-        ensures facts { facts_in self.new.aimers.items ≡ with_only id (kept WatchKind (aim_of id target)) (facts_in self.old.aimers.items) }
+        ensures { Aims id result (kept WatchKind (aim_of id target)) self.old.aimers.items self.new.aimers.items }
     {
         match self.place_of(id) {
             Ok(at) => {
@@ -105,8 +104,7 @@ impl Aimers {
 
     /// An entity has no target any more, and keeps its place in the list. Answers the target that it had, or 0.
     pub fn let_go(&mut self, id: u32) -> u32
-        ensures target { fact_with (facts_in self.old.aimers.items) id ≡ kept WatchKind (aim_of id result) }
-        ensures facts { facts_in self.new.aimers.items ≡ with_only id None (facts_in self.old.aimers.items) }
+        ensures aims { Aims id result None self.old.aimers.items self.new.aimers.items }
     {
         match self.place_of(id) {
             Ok(at) => {
@@ -120,8 +118,7 @@ impl Aimers {
 
     /// An entity is gone, and has no place in the list any more. Answers the target that it had, or 0.
     pub fn leave(&mut self, id: u32) -> u32
-        ensures target { fact_with (facts_in self.old.aimers.items) id ≡ kept WatchKind (aim_of id result) }
-        ensures facts { facts_in self.new.aimers.items ≡ with_only id None (facts_in self.old.aimers.items) }
+        ensures aims { Aims id result None self.old.aimers.items self.new.aimers.items }
         ensures told { told_in self.new.aimers.items ≡ with_only id None (told_in self.old.aimers.items) }
     {
         match self.place_of(id) {

@@ -1,10 +1,10 @@
 //! Who aims at whom: groups of ids whose key is their target. Nobody is listed under no target. Most notes take a target or let
 //! one go, so half of the calls here are about none; they are asked to stand in their caller's place, where that is seen at once.
 
-ghost use Rattle.std.specs.Prelude.{◌≡◌, ℕ, IfOk, OnOk};
-ghost use Rattle.sim_fact_lists.specs.{Groups.AreGroups, Groups.joined_by, Groups.left_by, Groups.listed, Places.Ascend};
-ghost use Rattle.sim_system.specs.{Facts.kept, Facts.kept_of, Notes.aim_of, declared.kind.Kind.TheVariants.Watch as WatchKind};
-ghost use Rattle.sim_watch.specs.Lists.{aim_key, HasRoomFor};
+ghost use Rattle.std.specs.Prelude.{IfOk, OnOk, ℕ, ◌≡◌};
+ghost use Rattle.sim_fact_lists.specs.{Changes.Ascend, Groups.AreGroups, Groups.joined_by, Groups.left_by, Groups.listed};
+ghost use Rattle.sim_system.specs.{Notes.aim_of, Notes.kept, Notes.kept_of, declared.kind.Kind.TheVariants.Watch as WatchKind};
+ghost use Rattle.sim_watch.specs.Aimers.{aim_key, HasRoomFor};
 
 use sim_base::OutOfMemory;
 use sim_fact_lists::Groups;

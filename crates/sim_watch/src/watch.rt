@@ -1,9 +1,9 @@
 //! The system: the target of each entity, and beside them a list of ids per target.
 
-ghost use Rattle.std.specs.Prelude.{◌≡◌, [], IfOk, OnOk, OnErr, None};
-ghost use Rattle.sim_fact_lists.specs.{Groups.AreGroups, Groups.group_with, Groups.listed, Places.with_only};
-ghost use Rattle.sim_system.specs.{Answers.watchers_among, Facts.kept, Notes.aim_of, declared.kind.Kind.TheVariants.Watch as WatchKind};
-ghost use Rattle.sim_watch.specs.{Aimers.facts_in, Aimers.told_in, Lists.aim_key};
+ghost use Rattle.std.specs.Prelude.{[], IfOk, None, OnErr, OnOk, ◌≡◌};
+ghost use Rattle.sim_fact_lists.specs.{Changes.with_only, Groups.AreGroups, Groups.group_with, Groups.listed};
+ghost use Rattle.sim_system.specs.{Meanings.watchers_among, Notes.aim_of, Notes.kept, declared.kind.Kind.TheVariants.Watch as WatchKind};
+ghost use Rattle.sim_watch.specs.Aimers.{aim_key, facts_in, told_in};
 
 use crate::aimers::Aimers;
 use crate::aims::{groups_of, join, leave, make_room};
@@ -24,6 +24,8 @@ pub struct Watch {
 }
 
 impl Watch {
+    ghost use Rattle.sim_watch.specs.Watches.{StaysBuilt};
+
     /// It has no land and no facts, and was never built. It keeps the allocator, and takes no memory yet.
     pub fn new(alloc: Global) -> Watch
         ensures { ⟦<Watch as System>⟧.meaning result ≡ record { kind = WatchKind; land = None; facts = []; rebuilds = 0 } }
@@ -55,16 +57,16 @@ impl Watch {
         self.groups = Groups::new(self.alloc);
     }
 
-    // An entity has this target, or none. All room is made first, so that a refusal leaves all as it was.
+    // An entity has this target, or none. All room is made first, so that a refusal leaves all as it was. To let go wants none.
     fn aim(&mut self, id: u32, to: u32) -> Result<(), OutOfMemory>
         ensures ok { OnOk result (facts_in self.new.aimers.aimers.items ≡ with_only id (kept WatchKind (aim_of id to))
             (facts_in self.old.aimers.aimers.items)) }
         ensures err { OnErr result (facts_in self.new.aimers.aimers.items ≡ facts_in self.old.aimers.aimers.items) }
-        ensures land { self.new.land ≡ self.old.land }
-        ensures rebuilds { self.new.rebuilds ≡ self.old.rebuilds }
+        ensures stays { StaysBuilt self.old self.new }
     {
         if to == 0 {
-            self.let_go(id);
+            let from = self.aimers.let_go(id);
+            leave(&mut self.groups, id, from);
             return Ok(());
         }
         self.aimers.make_room()?;
@@ -75,16 +77,6 @@ impl Watch {
         Ok(())
     }
 
-    // An entity has no target any more. That wants no room.
-    fn let_go(&mut self, id: u32)
-        ensures facts { facts_in self.new.aimers.aimers.items ≡ with_only id None (facts_in self.old.aimers.aimers.items) }
-        ensures land { self.new.land ≡ self.old.land }
-        ensures rebuilds { self.new.rebuilds ≡ self.old.rebuilds }
-    {
-        let from = self.aimers.let_go(id);
-        leave(&mut self.groups, id, from);
-    }
-
     // An entity is gone, with its place among those who aim, and so is the list of those who aimed at it, which is empty by then.
     // That is rare beside aims, in whose way it does not stand.
     #[inline(never)]
@@ -92,8 +84,7 @@ impl Watch {
         ensures facts { facts_in self.new.aimers.aimers.items ≡ with_only id None (facts_in self.old.aimers.aimers.items) }
         ensures told { told_in self.new.aimers.aimers.items ≡ with_only id None (told_in self.old.aimers.aimers.items) }
         ensures group { listed id self.new.groups.groups.items ≡ [] → group_with id self.new.groups.groups.items ≡ None }
-        ensures land { self.new.land ≡ self.old.land }
-        ensures rebuilds { self.new.rebuilds ≡ self.old.rebuilds }
+        ensures stays { StaysBuilt self.old self.new }
     {
         let from = self.aimers.leave(id);
         leave(&mut self.groups, id, from);

@@ -1,12 +1,153 @@
 -- A message as it is read from bytes. The length in front is passed over, and so is what follows a message of fixed length: whether
 -- the bytes are just the frame of what was read is seen when it is framed again.
-use Rattle.std.specs.Prelude.{◌≡◌, ℕ, Bool, true, zero, suc, List, [], ◌∷◌, length, take, drop, if◌then◌else◌, nat_lt, ◌==◌, IfOk, Some, None, Ok, Err, Option, Result}
-use Rattle.sim_bytes.specs.Reading.{◌>>=◌}
-use Rattle.{sim_bytes.specs.declared.take.Short.Short, sim_wire.specs.Fits.state_limit, sim_wire.specs.declared.fault.WireFault.WireFault}
-use Rattle.sim_wire.specs.Common.{Attack, byte_at, Command, Delete, DownOf, number_at, Place, point_at, Reader, Reads, Resign, Stop, Train, UpOf, w16, w32, Walk}
 use Rattle.sim_plain.specs.declared.message.DownOf.TheVariants as down
 use Rattle.sim_plain.specs.declared.message.UpOf.TheVariants as up
 use Rattle.sim_wire.specs.declared.fault.WireFault.TheVariants as faults
+use Rattle.sim_wire.specs.Common.{AllByRecursion, Attack, byte_at, Command, Delete, DownOf, HasFewIds, IsPoint, number_at, Place, point_at, point_bytes, Reader}
+use Rattle.sim_wire.specs.Common.{Reads, Resign, Stop, Train, u16_bytes, u32_bytes, UpOf, w16, w32, Walk}
+use Rattle.std.specs.Prelude.{[], Bool, drop, Err, IfOk, if◌then◌else◌, length, List, nat_lt, None, Ok, Option, Result, Some, suc, take, true, zero, ℕ, ◌++◌}
+use Rattle.std.specs.{Coded.Unit-prop, Coded.le_prop, List.flat_map, Prelude.◌<◌, Prelude.◌==◌, Prelude.◌^◌, Prelude.◌∷◌, Prelude.◌≡◌, Prelude.◌≤◌}
+use Rattle.{sim_bytes.specs.Reading.◌>>=◌, sim_bytes.specs.declared.take.Short.Short, sim_wire.specs.declared.fault.WireFault.WireFault}
+
+-- The bytes of a message: the length of its body, and the body, which begins with a tag.
+
+-- how many there are, and each of them
+unfoldable pub ids_bytes : List ℕ → List ℕ
+ids_bytes ids = u16_bytes (length ids) ++ flat_map u32_bytes ids
+
+-- the kind of a command, and what it has
+abbrev pub command_bytes : Command → List ℕ
+command_bytes (Walk ids to) = 1 ∷ (ids_bytes ids ++ point_bytes to)
+command_bytes (Stop ids) = 2 ∷ ids_bytes ids
+command_bytes (Attack ids target) = 3 ∷ (ids_bytes ids ++ u32_bytes target)
+command_bytes (Delete ids) = 4 ∷ ids_bytes ids
+command_bytes (Place template at) = 5 ∷ (u16_bytes template ++ point_bytes at)
+command_bytes (Train building template) = 6 ∷ (u32_bytes building ++ u16_bytes template)
+command_bytes Resign = 7 ∷ []
+
+-- the tag of what a client says, and what it has; the bytes of a state come last
+abbrev pub up_body : UpOf (List ℕ) → List ℕ
+up_body up.Join = 1 ∷ []
+up_body (up.Command turn command) = 2 ∷ (u32_bytes turn ++ command_bytes command)
+up_body (up.Done turn) = 3 ∷ u32_bytes turn
+up_body (up.Report turn digest) = 4 ∷ (u32_bytes turn ++ digest)
+up_body (up.State client turn bytes) = 5 ∷ client ∷ (u32_bytes turn ++ bytes)
+
+-- the same of what the server says
+abbrev pub down_body : DownOf (List ℕ) → List ℕ
+down_body (down.Ask client) = 1 ∷ client ∷ []
+down_body (down.State done bytes) = 2 ∷ (u32_bytes done ++ bytes)
+down_body (down.Command turn order) = 3 ∷ (u32_bytes turn ++ order.player ∷ command_bytes order.command)
+down_body (down.Release turn) = 4 ∷ u32_bytes turn
+down_body (down.Notice turn client) = 5 ∷ (u32_bytes turn ++ client ∷ [])
+down_body (down.Refused code) = 6 ∷ code ∷ []
+
+-- a body behind its length
+abbrev pub framed : List ℕ → List ℕ
+framed body = u32_bytes (length body) ++ body
+
+-- the frame of what a client says
+abbrev pub up_frame : UpOf (List ℕ) → List ℕ
+up_frame message = framed (up_body message)
+
+-- the frame of what the server says
+abbrev pub down_frame : DownOf (List ℕ) → List ℕ
+down_frame message = framed (down_body message)
+
+-- Which messages have a frame: those with few ids and a short state, whose numbers fit their bytes. The numbers of a message in
+-- memory always do.
+
+-- how many bytes a state has at most: 75, and 573 for each of 4,096 rows
+abbrev pub state_limit : ℕ
+state_limit = 2347083
+
+-- the bytes of a state are not more than any state has
+abbrev pub IsShortState : List ℕ → Type 0
+IsShortState bytes = length bytes ≤ state_limit
+
+-- what a client says has at most 256 ids, and a short state
+abbrev pub IsSmallUp : UpOf (List ℕ) → Type 0
+IsSmallUp up.Join = Unit {0}
+IsSmallUp (up.Command turn command) = HasFewIds command
+IsSmallUp (up.Done turn) = Unit {0}
+IsSmallUp (up.Report turn digest) = Unit {0}
+IsSmallUp (up.State client turn bytes) = IsShortState bytes
+
+-- and so has what the server says
+abbrev pub IsSmallDown : DownOf (List ℕ) → Type 0
+IsSmallDown (down.Ask client) = Unit {0}
+IsSmallDown (down.State done bytes) = IsShortState bytes
+IsSmallDown (down.Command turn order) = HasFewIds order.command
+IsSmallDown (down.Release turn) = Unit {0}
+IsSmallDown (down.Notice turn client) = Unit {0}
+IsSmallDown (down.Refused code) = Unit {0}
+
+-- that a message is small is shown in one way, so that a value can carry it
+HasFewIds-prop : (command : Command) → IsProp (HasFewIds command)
+HasFewIds-prop (Walk ids to) = le_prop
+HasFewIds-prop (Stop ids) = le_prop
+HasFewIds-prop (Attack ids target) = le_prop
+HasFewIds-prop (Delete ids) = le_prop
+HasFewIds-prop (Place template at) = Unit-prop
+HasFewIds-prop (Train building template) = Unit-prop
+HasFewIds-prop Resign = Unit-prop
+
+pub IsSmallUp-prop : (message : UpOf (List ℕ)) → IsProp (IsSmallUp message)
+IsSmallUp-prop up.Join = Unit-prop
+IsSmallUp-prop (up.Command turn command) = HasFewIds-prop command
+IsSmallUp-prop (up.Done turn) = Unit-prop
+IsSmallUp-prop (up.Report turn digest) = Unit-prop
+IsSmallUp-prop (up.State client turn bytes) = le_prop
+
+pub IsSmallDown-prop : (message : DownOf (List ℕ)) → IsProp (IsSmallDown message)
+IsSmallDown-prop (down.Ask client) = Unit-prop
+IsSmallDown-prop (down.State done bytes) = le_prop
+IsSmallDown-prop (down.Command turn order) = HasFewIds-prop order.command
+IsSmallDown-prop (down.Release turn) = Unit-prop
+IsSmallDown-prop (down.Notice turn client) = Unit-prop
+IsSmallDown-prop (down.Refused code) = Unit-prop
+
+-- few ids, of which each fits
+pub record IdsFit (ids : List ℕ) : Type 0 where
+  pub few : length ids ≤ 256
+  pub each : AllByRecursion (λ id. id < 2 ^ 32) ids
+
+-- a command has few ids, and its numbers fit
+abbrev pub CommandFits : Command → Type 0
+CommandFits (Walk ids to) = IdsFit ids × IsPoint to
+CommandFits (Stop ids) = IdsFit ids
+CommandFits (Attack ids target) = IdsFit ids × (target < 2 ^ 32)
+CommandFits (Delete ids) = IdsFit ids
+CommandFits (Place template at) = (template < 2 ^ 16) × IsPoint at
+CommandFits (Train building template) = (building < 2 ^ 32) × (template < 2 ^ 16)
+CommandFits Resign = Unit {0}
+
+-- what a client says is small, and its numbers fit
+abbrev pub UpFits : UpOf (List ℕ) → Type 0
+UpFits up.Join = Unit {0}
+UpFits (up.Command turn command) = (turn < 2 ^ 32) × CommandFits command
+UpFits (up.Done turn) = turn < 2 ^ 32
+UpFits (up.Report turn digest) = (turn < 2 ^ 32) × (length digest ≡ 16)
+UpFits (up.State client turn bytes) = (turn < 2 ^ 32) × IsShortState bytes
+
+-- the same of what the server says
+abbrev pub DownFits : DownOf (List ℕ) → Type 0
+DownFits (down.Ask client) = Unit {0}
+DownFits (down.State done bytes) = (done < 2 ^ 32) × IsShortState bytes
+DownFits (down.Command turn order) = (turn < 2 ^ 32) × CommandFits order.command
+DownFits (down.Release turn) = turn < 2 ^ 32
+DownFits (down.Notice turn client) = turn < 2 ^ 32
+DownFits (down.Refused code) = Unit {0}
+
+-- bytes are the frame of what a client says
+pub record IsUpFrame (bytes : List ℕ) (message : UpOf (List ℕ)) : Type 0 where
+  pub fits : UpFits message
+  pub framed : bytes ≡ up_frame message
+
+-- bytes are the frame of what the server says
+pub record IsDownFrame (bytes : List ℕ) (message : DownOf (List ℕ)) : Type 0 where
+  pub fits : DownFits message
+  pub framed : bytes ≡ down_frame message
 
 -- so many ids
 unfoldable pub numbers_at : ℕ → Reader (List ℕ)

@@ -1,14 +1,14 @@
 //! Whether bytes are the frame of a message, by lengths and codes alone. It takes no memory, so a reader that asks here
 //! first takes memory for frames alone.
 
-ghost use Rattle.std.specs.Prelude.{◌≡◌, ◌+◌, ◌==◌};
-ghost use Rattle.sim_wire.specs.Form.{command_form, down_command_form, down_form, down_tag_form, ids_form, kind_form, state_form, up_command_form, up_form};
-ghost use Rattle.sim_wire.specs.Form.{up_tag_form};
+ghost use Rattle.std.specs.Prelude.{◌+◌, ◌==◌, ◌≡◌};
+ghost use Rattle.sim_wire.specs.Memory.{command_form, down_command_form, down_form, down_tag_form, ids_form, kind_form, state_form, up_command_form, up_form};
+ghost use Rattle.sim_wire.specs.Memory.{up_tag_form};
 
 use sim_base::MAX_STATE;
 use sim_bytes::Take;
 
-#[tactic(auto, unfolding(crate::specs::Form::ids_form))]
+#[tactic(auto, unfolding(crate::specs::Memory::ids_form))]
 fn has_ids(from: &mut Take<'_>, behind: u8) -> bool
     ensures { result ≡ ids_form behind from.old }
 {
@@ -21,7 +21,7 @@ fn has_ids(from: &mut Take<'_>, behind: u8) -> bool
     from.left() == 4 * (count as usize) + behind as usize
 }
 
-#[tactic(auto, unfolding(crate::specs::Form::kind_form))]
+#[tactic(auto, unfolding(crate::specs::Memory::kind_form))]
 fn has_kind(kind: u8, from: &mut Take<'_>) -> bool
     ensures { result ≡ kind_form kind from.old }
 {
@@ -37,7 +37,7 @@ fn has_kind(kind: u8, from: &mut Take<'_>) -> bool
     }
 }
 
-#[tactic(auto, unfolding(crate::specs::Form::command_form))]
+#[tactic(auto, unfolding(crate::specs::Memory::command_form))]
 fn has_command(from: &mut Take<'_>) -> bool
     ensures { result ≡ command_form from.old }
 {
@@ -47,7 +47,7 @@ fn has_command(from: &mut Take<'_>) -> bool
     has_kind(kind, from)
 }
 
-#[tactic(auto, unfolding(crate::specs::Form::state_form))]
+#[tactic(auto, unfolding(crate::specs::Memory::state_form))]
 fn has_state(from: &Take<'_>, before: u8) -> bool
     ensures { result ≡ state_form before from.now }
 {
@@ -62,7 +62,7 @@ fn has_state(from: &Take<'_>, before: u8) -> bool
     true
 }
 
-#[tactic(auto, unfolding(crate::specs::Form::up_command_form))]
+#[tactic(auto, unfolding(crate::specs::Memory::up_command_form))]
 fn has_up_command(from: &mut Take<'_>) -> bool
     ensures { result ≡ up_command_form from.old }
 {
@@ -72,7 +72,7 @@ fn has_up_command(from: &mut Take<'_>) -> bool
     has_command(from)
 }
 
-#[tactic(auto, unfolding(crate::specs::Form::up_tag_form))]
+#[tactic(auto, unfolding(crate::specs::Memory::up_tag_form))]
 fn has_up_tag(tag: u8, from: &mut Take<'_>) -> bool
     ensures { result ≡ up_tag_form tag from.old }
 {
@@ -86,7 +86,7 @@ fn has_up_tag(tag: u8, from: &mut Take<'_>) -> bool
     }
 }
 
-#[tactic(auto, unfolding(crate::specs::Form::down_command_form))]
+#[tactic(auto, unfolding(crate::specs::Memory::down_command_form))]
 fn has_down_command(from: &mut Take<'_>) -> bool
     ensures { result ≡ down_command_form from.old }
 {
@@ -99,7 +99,7 @@ fn has_down_command(from: &mut Take<'_>) -> bool
     has_command(from)
 }
 
-#[tactic(auto, unfolding(crate::specs::Form::down_tag_form))]
+#[tactic(auto, unfolding(crate::specs::Memory::down_tag_form))]
 fn has_down_tag(tag: u8, from: &mut Take<'_>) -> bool
     ensures { result ≡ down_tag_form tag from.old }
 {
@@ -115,7 +115,7 @@ fn has_down_tag(tag: u8, from: &mut Take<'_>) -> bool
 }
 
 /// Whether bytes are the frame of what a client says.
-#[tactic(auto, unfolding(crate::specs::Form::up_form))]
+#[tactic(auto, unfolding(crate::specs::Memory::up_form))]
 pub fn is_up_form(bytes: &[u8]) -> bool
     ensures { result ≡ up_form bytes.now }
 {
@@ -133,7 +133,7 @@ pub fn is_up_form(bytes: &[u8]) -> bool
 }
 
 /// Whether bytes are the frame of what the server says.
-#[tactic(auto, unfolding(crate::specs::Form::down_form))]
+#[tactic(auto, unfolding(crate::specs::Memory::down_form))]
 pub fn is_down_form(bytes: &[u8]) -> bool
     ensures { result ≡ down_form bytes.now }
 {

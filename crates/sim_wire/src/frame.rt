@@ -1,13 +1,13 @@
 //! Frames made and read. Bytes are read only where they have the form of a frame, so that memory is taken for frames alone,
 //! and of these for messages with entities or a state. The reader itself is lax: it is enough that it reads back what is framed.
 
-ghost use Rattle.std.specs.Prelude.{◌≡◌, ℕ, true, List, IfOk, IfErr};
-ghost use Rattle.sim_wire.specs.{Common.DownOf, Common.UpOf, Memory.down_carries, Memory.up_carries};
-ghost use Rattle.sim_wire.specs.{Fits.IsDownFrame, Fits.IsSmallDown, Fits.IsSmallUp, Fits.IsUpFrame, Refusals.GivesMessage, Refusals.RefusedFor};
+ghost use Rattle.std.specs.Prelude.{IfErr, IfOk, List, true, ℕ, ◌≡◌};
+ghost use Rattle.sim_wire.specs.{Common.DownOf, Common.UpOf, Memory.down_carries, Memory.up_carries, Reading.IsDownFrame, Reading.IsSmallDown};
+ghost use Rattle.sim_wire.specs.{Reading.IsSmallUp, Reading.IsUpFrame, Refusals.GivesMessage, Refusals.RefusedFor};
 
 use crate::form::{is_down_form, is_up_form};
+use crate::length::{SmallDown, SmallUp};
 use crate::take::{take_down, take_up};
-use crate::tell::{tell_down, tell_up};
 use crate::{Down, Up, WireFault};
 use sim_base::OutOfMemory;
 use sim_bytes::Take;
@@ -22,7 +22,7 @@ pub fn frame_up(alloc: Global, up: &Up) -> Result<Vec<u8>, OutOfMemory>
     ensures { IfOk result (λ bytes. IsUpFrame bytes.items up.now) }
 {
     let mut out = Vec::new(alloc);
-    tell_up(&mut out, up)?;
+    SmallUp { up }.tell(&mut out)?;
     Ok(out)
 }
 
@@ -32,7 +32,7 @@ pub fn frame_down(alloc: Global, down: &Down) -> Result<Vec<u8>, OutOfMemory>
     ensures { IfOk result (λ bytes. IsDownFrame bytes.items down.now) }
 {
     let mut out = Vec::new(alloc);
-    tell_down(&mut out, down)?;
+    SmallDown { down }.tell(&mut out)?;
     Ok(out)
 }
 

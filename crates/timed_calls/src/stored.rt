@@ -1,8 +1,8 @@
 //! What a stored state costs where it costs most: one of 4,096 entities that have every part and a way of 45 waypoints,
 //! 1.7 MB. It is made by hand, so that no match has to be played to it.
 
-ghost use Rattle.std.specs.Prelude.{◌≡◌, length, IfOk};
-ghost use Rattle.sim_base.specs.{Limits.IsLand, Limits.IsSetup, Limits.IsTemplate, Validity.IsValid};
+ghost use Rattle.std.specs.Prelude.{IfOk, length, ◌≡◌};
+ghost use Rattle.sim_base.specs.Limits.{IsLand, IsSetup, IsTemplate, IsValid};
 
 use sim_base::{
     Aim, Arms, Fixed, Harm, Items, Land, Motion, Name, OutOfMemory, Point, Resist, Row, Setup,

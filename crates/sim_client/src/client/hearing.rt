@@ -1,9 +1,9 @@
 //! What a client hears.
 
-ghost use Rattle.{sim_base.specs.Validity.IsValid, sim_base.specs.declared.state.State.State as AnyState, sim_board.specs.BoardWords.AreKept};
-ghost use Rattle.sim_client.specs.ClientWords.{Answers, Begins, Builds, Hears, is_idle, IsSound, Keeps, life, LoadsAt, NeedsNoMemory, setup_in, state_of};
-ghost use Rattle.sim_client.specs.{ClientWords.systems, ClientWords.Waits, Lives.begins, Lives.hears, Lives.Joining, Lives.loads, Lives.refused};
-ghost use Rattle.std.specs.Prelude.{◌≡◌, IsOk, IsSome, None, Ok, OnOk, Option, true};
+ghost use Rattle.std.specs.Prelude.{IsOk, None, Option, true, ◌≡◌};
+ghost use Rattle.sim_client.specs.ClientWords.{Answers, Begins, Builds, Hears, is_idle, IsSound, life, LoadsAt, setup_in, systems, Waits};
+ghost use Rattle.sim_client.specs.Lives.{Joining, begins, loads};
+ghost use Rattle.{sim_base.specs.Limits.IsValid, sim_base.specs.declared.state.State.State as AnyState, sim_board.specs.Boards.AreKept};
 
 use super::Client;
 use crate::did::{Did, silent};
@@ -20,30 +20,14 @@ impl Client<'_> {
         requires sound { IsSound self.old ⟦<dyn System as System>⟧ }
         ensures { Hears ⟦<dyn System as System>⟧ (life self.old) down result self.old self.new }
     {
-        match self.stage {
+        match &mut self.stage {
             Stage::Off => Ok(Did::Idle),
             Stage::Joining => self.hear_joining(down),
-            Stage::On { .. } => self.hear_on(down),
+            Stage::On { seat } => match &self.board {
+                Some(board) => heed(self.alloc, self.setup, board.scene().state, seat, down),
+                None => Ok(Did::Idle),
+            },
         }
-    }
-
-    // One that is on hears a message.
-    fn hear_on(&mut self, down: Down) -> Result<Did, OutOfMemory>
-        requires sound { IsSound self.old ⟦<dyn System as System>⟧ }
-        requires on { IsSome (state_of (life self.old)) }
-        ensures answers { (loaded : Option AnyState) → Answers (hears (setup_in self.old) loaded down (life self.old)) (life self.old) result (life self.new) }
-        ensures idle { hears (setup_in self.old) None down (life self.old) ≡ None → IsOk result }
-        ensures sure { NeedsNoMemory (life self.old) down → IsOk result }
-        ensures sound { OnOk result (IsSound self.new ⟦<dyn System as System>⟧) }
-        ensures keeps { Keeps ⟦<dyn System as System>⟧ self.old self.new }
-    {
-        let Stage::On { seat } = &mut self.stage else {
-            return Ok(Did::Idle);
-        };
-        let Some(board) = &self.board else {
-            return Ok(Did::Idle);
-        };
-        heed(self.alloc, self.setup, board.scene().state, seat, down)
     }
 
     // One that waits for a state hears a message.
@@ -53,7 +37,12 @@ impl Client<'_> {
     {
         match down {
             Down::State { done, bytes } => self.hear_state(done, bytes.as_slice()),
-            Down::Refused { code } => Ok(self.hear_refused(code)),
+            // The answer to its wish to join: it is off.
+            Down::Refused { code: 4 } => {
+                self.stage = Stage::Off;
+                Ok(silent(self.alloc))
+            }
+            Down::Refused { .. } => Ok(Did::Idle),
             Down::Ask { .. } => Ok(Did::Idle),
             Down::Command { .. } => Ok(Did::Idle),
             Down::Release { .. } => Ok(Did::Idle),
@@ -97,19 +86,5 @@ impl Client<'_> {
             seat: begin(self.alloc, released, done),
         };
         Ok(())
-    }
-
-    // One that waits for a state hears a refusal, and is off if it is that of its wish to join.
-    fn hear_refused(&mut self, code: u8) -> Did
-        requires { Waits ⟦<dyn System as System>⟧ self.old }
-        ensures answers { Answers (refused code) Joining (Ok result) (life self.new) }
-        ensures sound { IsSound self.new ⟦<dyn System as System>⟧ }
-        ensures keeps { Keeps ⟦<dyn System as System>⟧ self.old self.new }
-    {
-        if code != 4 {
-            return Did::Idle;
-        }
-        self.stage = Stage::Off;
-        silent(self.alloc)
     }
 }

@@ -1,10 +1,9 @@
 //! The log of a match, which is stored in a file; and one that is checked, by playing the match as it says.
 
-ghost use Rattle.{sim_play.specs.Playing.MayBegin, sim_replay.specs.Logs.IsOfTurns, sim_top.specs.Commands.IsAnswerTo, sim_top.specs.Commands.shelved};
-ghost use Rattle.sim_top.specs.Common.{IsLog, last_state, log_after as log_of_turns, logged_line, match_turns, state_after, systems_of, text_of_log};
-ghost use Rattle.sim_top.specs.{Making.IsMade, Making.IsMadeOf, Making.outcome_made, Making.status_made, Outcome.check_by, Outcome.check_outcome};
-ghost use Rattle.sim_top.specs.{Outcome.logged_as, Returning.RigsCameBack, Rigs.AreEight, Rigs.HasPlayed, Words.to_check, Words.to_log};
-ghost use Rattle.std.specs.Prelude.{◌<◌, ◌^◌, ◌≡◌, codes, IfOk, length, Some, string_bytes};
+ghost use Rattle.std.specs.Prelude.{IfOk, length, Some, string_bytes, ◌<◌, ◌^◌, ◌≡◌};
+ghost use Rattle.sim_replay.specs.Logs.{IsOfTurns};
+ghost use Rattle.sim_top.specs.{Commands.IsAnswerTo, Commands.shelved, Common.logged_line, Common.text_of_log, Making.IsMadeOf, Making.status_made};
+ghost use Rattle.sim_top.specs.{Outcome.check_by, Outcome.logged_as, Returning.RigsCameBack, Stops.AreEight, Words.to_check, Words.to_log};
 
 use super::{Answer, Equipment, Saved};
 use crate::inputs::{read_log, read_match};
@@ -34,24 +33,9 @@ impl Equipment<'_> {
     {
         let setup = read_match(self.alloc, shelf, game)?;
         let rig = take_first(&mut self.rigs);
-        let (answer, rig) = self.log_match(&setup, out, rig);
+        let (log, rig) = match_log(self.alloc, &setup, rig, self.orders);
         put_first(&mut self.rigs, rig);
-        answer
-    }
-
-    // The log of a match as a file and its line.
-    fn log_match<'w>(
-        &self,
-        setup: &Setup,
-        out: &'w str,
-        rig: Rig,
-    ) -> (Result<Answer<'w>, Stop<'w>>, Rig)
-        requires { MayBegin setup.now (systems_of rig ⟦<dyn System as System>⟧) }
-        ensures made { IsMade (logged_as (codes "log") setup.now out.now (log_of_turns setup.now (match_turns setup.now))) result.0 }
-        ensures played { HasPlayed ⟦<dyn System as System>⟧ setup.now (last_state setup.now) result.0 rig result.1 }
-    {
-        let (log, rig) = match_log(self.alloc, setup, rig, self.orders);
-        (stored_log(self.alloc, "log", setup, log, out), rig)
+        stored_log(self.alloc, "log", &setup, log, out)
     }
 }
 
@@ -110,35 +94,19 @@ impl Equipment<'_> {
         let setup = read_match(self.alloc, shelf, game)?;
         let log = read_log(self.alloc, shelf, &setup, name)?;
         let rig = take_first(&mut self.rigs);
-        let (answer, rig) = self.check_log(&setup, &log, rig);
-        put_first(&mut self.rigs, rig);
-        answer
-    }
-
-    // Checks a log of a match.
-    fn check_log<'w>(
-        &self,
-        setup: &Setup,
-        log: &Log,
-        rig: Rig,
-    ) -> (Result<Answer<'w>, Stop<'w>>, Rig)
-        requires begins { MayBegin setup.now (systems_of rig ⟦<dyn System as System>⟧) }
-        requires log { IsLog setup.now log.now }
-        ensures made { IsMade (check_outcome setup.now log.now) result.0 }
-        ensures played { HasPlayed ⟦<dyn System as System>⟧ setup.now (state_after setup.now log.now.turns) result.0 rig result.1 }
-    {
         let (played, rig) = digests_after(
             self.alloc,
-            setup,
+            &setup,
             log.turns.as_slice(),
             rig,
             self.orders,
         );
-        (compared(self.alloc, log, played), rig)
+        put_first(&mut self.rigs, rig);
+        compared(self.alloc, &log, played)
     }
 }
 
-// What comes of the digests of a log beside those that were played, if there was memory for these.
+// Whether the digests of a log are those that were played, or the first turn at which they are not, if there was memory for these.
 fn compared<'w>(
     alloc: Global,
     log: &Log,
@@ -148,14 +116,6 @@ fn compared<'w>(
     ensures { IsMadeOf played (check_by log.now) result }
 {
     let played = played?;
-    Ok(told(alloc, log, &played)?)
-}
-
-// Whether the digests of a log are those that were played, or the first turn at which they are not.
-fn told<'w>(alloc: Global, log: &Log, played: &Digests) -> Result<Answer<'w>, OutOfMemory>
-    requires { length log.now.digests < 2 ^ 32 }
-    ensures { IfOk result (λ answer. outcome_made answer ≡ check_by log.now played.now) }
-{
     let mut text = String::new(alloc);
     let status = match first_apart(log.digests.as_slice(), played.as_slice()) {
         None => {

@@ -1,16 +1,13 @@
 //! A match that is played from its start, or from a stored state on.
 
 ghost use Rattle.std.specs.Prelude.{Some};
-ghost use Rattle.sim_top.specs.{Commands.IsAnswerTo, Commands.shelved, Common.systems_of, Making.IsMade, Making.status_made, Words.to_play, Words.to_resume};
-ghost use Rattle.sim_top.specs.{Outcome.printed as printed_as, Returning.RigsCameBack, Rigs.AreEight, Rigs.HasPlayed};
-ghost use Rattle.sim_top.specs.Common.{end_from, first_state, play_text as text_of_play, resume_text as text_of_resume};
-ghost use Rattle.sim_play.specs.Playing.{MayBegin, MayResume};
+ghost use Rattle.sim_top.specs.Words.{to_resume};
+ghost use Rattle.sim_top.specs.{Commands.IsAnswerTo, Commands.shelved, Making.status_made, Returning.RigsCameBack, Stops.AreEight, Words.to_play};
 
 use super::{Answer, Equipment, shown};
 use crate::inputs::{read_match, read_state};
 use crate::rigs::{put_first, take_first};
-use crate::{Status, Stop};
-use sim_base::{Setup, State};
+use crate::stop::Stop;
 use sim_play::{play_text, resume_text};
 use sim_store::Shelf;
 use sim_system::{Rig, System};
@@ -29,19 +26,9 @@ impl Equipment<'_> {
     {
         let setup = read_match(self.alloc, shelf, game)?;
         let rig = take_first(&mut self.rigs);
-        let (answer, rig) = self.play_match(&setup, rig);
+        let (text, rig) = play_text(self.alloc, &setup, rig, self.orders);
         put_first(&mut self.rigs, rig);
-        answer
-    }
-
-    // Plays a match that was read.
-    fn play_match<'w>(&self, setup: &Setup, rig: Rig) -> (Result<Answer<'w>, Stop<'w>>, Rig)
-        requires { MayBegin setup.now (systems_of rig ⟦<dyn System as System>⟧) }
-        ensures made { IsMade (printed_as Status.Done (text_of_play setup.now)) result.0 }
-        ensures played { HasPlayed ⟦<dyn System as System>⟧ setup.now (end_from setup.now (first_state setup.now)) result.0 rig result.1 }
-    {
-        let (text, rig) = play_text(self.alloc, setup, rig, self.orders);
-        (shown(text), rig)
+        shown(text)
     }
 
     /// Plays the match of a file on from a state that is stored in another.
@@ -60,23 +47,8 @@ impl Equipment<'_> {
         let setup = read_match(self.alloc, shelf, game)?;
         let state = read_state(self.alloc, shelf, &setup, name)?;
         let rig = take_first(&mut self.rigs);
-        let (answer, rig) = self.resume_match(&setup, state, rig);
+        let (text, rig) = resume_text(self.alloc, &setup, state, rig, self.orders);
         put_first(&mut self.rigs, rig);
-        answer
-    }
-
-    // Plays a match on from a state that was read.
-    fn resume_match<'w>(
-        &self,
-        setup: &Setup,
-        state: State,
-        rig: Rig,
-    ) -> (Result<Answer<'w>, Stop<'w>>, Rig)
-        requires { MayResume setup.now state (systems_of rig ⟦<dyn System as System>⟧) }
-        ensures made { IsMade (printed_as Status.Done (text_of_resume setup.now state)) result.0 }
-        ensures played { HasPlayed ⟦<dyn System as System>⟧ setup.now (end_from setup.now state) result.0 rig result.1 }
-    {
-        let (text, rig) = resume_text(self.alloc, setup, state, rig, self.orders);
-        (shown(text), rig)
+        shown(text)
     }
 }

@@ -1,16 +1,13 @@
 //! The territories of a turn of a match.
 
-ghost use Rattle.sim_play.specs.Playing.{MayReach};
-ghost use Rattle.sim_top.specs.{Commands.IsAnswerTo, Commands.shelved, Common.after, Common.own_turns, Common.systems_of, Making.IsMadeAs, Making.status_made};
-ghost use Rattle.sim_top.specs.{Outcome.IsRealmOutcome, Returning.RigsCameBack, Rigs.AreEight, Rigs.HasPlayed, Words.to_realm};
-ghost use Rattle.std.specs.Prelude.{◌≤◌, Some};
+ghost use Rattle.std.specs.Prelude.{Some};
+ghost use Rattle.sim_top.specs.{Commands.IsAnswerTo, Commands.shelved, Making.status_made, Returning.RigsCameBack, Stops.AreEight, Words.to_realm};
 
 use super::storing::reached;
 use super::{Answer, Equipment, shown};
 use crate::inputs::read_match;
 use crate::rigs::{put_first, take_first};
 use crate::stop::Stop;
-use sim_base::Setup;
 use sim_play::realm_text;
 use sim_store::Shelf;
 use sim_system::{Rig, System};
@@ -32,23 +29,8 @@ impl Equipment<'_> {
         let setup = read_match(self.alloc, shelf, game)?;
         reached(&setup, turn)?;
         let rig = take_first(&mut self.rigs);
-        let (answer, rig) = self.realm_at(&setup, turn, rig);
+        let (text, rig) = realm_text(self.alloc, &setup, turn, rig, self.orders);
         put_first(&mut self.rigs, rig);
-        answer
-    }
-
-    // Tells the territories of a turn that the match has.
-    fn realm_at<'w>(
-        &self,
-        setup: &Setup,
-        turn: u32,
-        rig: Rig,
-    ) -> (Result<Answer<'w>, Stop<'w>>, Rig)
-        requires { MayReach setup.now turn (systems_of rig ⟦<dyn System as System>⟧) }
-        ensures made { IsMadeAs (IsRealmOutcome setup.now (after setup.now (own_turns setup.now 0 turn))) result.0 }
-        ensures played { HasPlayed ⟦<dyn System as System>⟧ setup.now (after setup.now (own_turns setup.now 0 turn)) result.0 rig result.1 }
-    {
-        let (text, rig) = realm_text(self.alloc, setup, turn, rig, self.orders);
-        (shown(text), rig)
+        shown(text)
     }
 }

@@ -1,15 +1,11 @@
 //! What a session makes of its match and its steps: the whole text that it prints, with a rig for each client.
 
-ghost use Rattle.std.specs.Prelude.{◌≡◌, drop, OnOk, Some, vec_capacity};
-ghost use Rattle.sim_top.specs.{Commands.IsAnswerTo, Commands.shelved, Common.session_text as text_of_session, Returning.RigsCameBack};
-ghost use Rattle.sim_top.specs.{Making.IsMade, Making.status_made, Outcome.printed as printed_as, Rigs.AreEight, Rigs.AreFresh, Words.to_session};
-ghost use Rattle.sim_top.specs.Common.{AllBuiltAtMost, AllStand, builds_of, IsSetup, IsStepList, rigs_of, session_of};
+ghost use Rattle.std.specs.Prelude.{Some};
+ghost use Rattle.sim_top.specs.{Commands.IsAnswerTo, Commands.shelved, Making.status_made, Returning.RigsCameBack, Stops.AreFresh, Words.to_session};
 
 use super::{Answer, Equipment, shown};
 use crate::inputs::read_steps;
-use crate::{Status, Stop, read_session_match};
-use sim_base::Setup;
-use sim_lists::StepList;
+use crate::{Stop, read_session_match};
 use sim_session::session_text;
 use sim_store::Shelf;
 use sim_system::{Rig, System};
@@ -31,24 +27,8 @@ impl Equipment<'_> {
     {
         let setup = read_session_match(self.alloc, shelf, game)?;
         let list = read_steps(self.alloc, shelf, steps, setup.players)?;
-        self.session_match(&setup, &list)
-    }
-
-    // Runs a session whose match and steps were read.
-    fn session_match<'w>(&mut self, setup: &Setup, list: &StepList) -> Result<Answer<'w>, Stop<'w>>
-        requires limits { IsSetup setup.now }
-        requires list { IsStepList setup.now.players list.now }
-        requires fresh { AreFresh ⟦<dyn System as System>⟧ self.old.rigs.items }
-        ensures made { IsMade (printed_as Status.Done (text_of_session setup.now list.now)) result }
-        ensures stand { OnOk result (AllStand setup.now (session_of setup.now list.now) (rigs_of self.new.rigs.items ⟦<dyn System as System>⟧)) }
-        ensures built { AllBuiltAtMost (builds_of setup.now list.now) setup.now.players (rigs_of self.old.rigs.items ⟦<dyn System as System>⟧)
-            (rigs_of self.new.rigs.items ⟦<dyn System as System>⟧) }
-        ensures spare { drop setup.now.players self.new.rigs.items ≡ drop setup.now.players self.old.rigs.items }
-        ensures eight { AreEight ⟦<dyn System as System>⟧ self.new.rigs.items }
-        ensures room { vec_capacity self.new.rigs ≡ vec_capacity self.old.rigs }
-    {
         let all = mem::replace(&mut self.rigs, Vec::new(self.alloc));
-        let (text, back) = session_text(self.alloc, setup, self.orders, list, all);
+        let (text, back) = session_text(self.alloc, &setup, self.orders, &list, all);
         self.rigs = back;
         shown(text)
     }

@@ -1,15 +1,12 @@
 //! A match that is played by an economy, and what its players have in the end.
 
-ghost use Rattle.{sim_top.specs.Returning.RigsCameBack, std.specs.Prelude.Some};
-ghost use Rattle.sim_top.specs.{Commands.IsAnswerTo, Commands.shelved, Making.IsMade, Making.status_made, Rigs.AreEight, Rigs.HasPlayed, Words.to_stock};
-ghost use Rattle.sim_top.specs.{Common.IsEconomy, Common.paid_state, Common.stock_text as text_of_stocks, Common.systems_of, Outcome.printed};
-ghost use Rattle.sim_play.specs.Playing.{MayBegin};
+ghost use Rattle.std.specs.Prelude.{Some};
+ghost use Rattle.sim_top.specs.{Commands.IsAnswerTo, Commands.shelved, Making.status_made, Returning.RigsCameBack, Stops.AreEight, Words.to_stock};
 
 use super::{Answer, Equipment, shown};
 use crate::inputs::{read_economy, read_match};
 use crate::rigs::{put_first, take_first};
-use crate::{Status, Stop};
-use sim_base::Setup;
+use crate::stop::Stop;
 use sim_play::stock_text;
 use sim_stock::{DeedTable, Market};
 use sim_store::Shelf;
@@ -38,23 +35,8 @@ impl Equipment<'_> {
             deeds: self.deeds,
             economy: &economy,
         };
-        let (answer, rig) = stock_match(&market, &setup, rig);
+        let (text, rig) = stock_text(&market, &setup, rig);
         put_first(&mut self.rigs, rig);
-        answer
+        shown(text)
     }
-}
-
-// Plays a match by an economy of it.
-fn stock_match<'w>(
-    market: &Market<'_>,
-    setup: &Setup,
-    rig: Rig,
-) -> (Result<Answer<'w>, Stop<'w>>, Rig)
-    requires begins { MayBegin setup.now (systems_of rig ⟦<dyn System as System>⟧) }
-    requires economy { IsEconomy setup.now market.now.economy.now }
-    ensures made { IsMade (printed Status.Done (text_of_stocks setup.now market.now.economy.now)) result.0 }
-    ensures played { HasPlayed ⟦<dyn System as System>⟧ setup.now (paid_state setup.now market.now.economy.now setup.now.turns) result.0 rig result.1 }
-{
-    let (text, rig) = stock_text(market, setup, rig);
-    (shown(text), rig)
 }

@@ -1,10 +1,8 @@
 //! The state of a turn of a match, which is stored in a file.
 
-ghost use Rattle.std.specs.Prelude.{◌≡◌, ◌<◌, ◌≤◌, length, IfOk, IfErr, Some, string_bytes};
-ghost use Rattle.sim_top.specs.{Commands.IsAnswerTo, Commands.shelved, Returning.RigsCameBack, Rigs.AreEight, Rigs.HasPlayed, Words.to_store};
-ghost use Rattle.sim_top.specs.{Making.IsMade, Making.IsMadeOf, Making.status_made, Outcome.store_outcome, Outcome.stored_at as stored_outcome};
-ghost use Rattle.sim_top.specs.Common.{after, digest as digest_of, IsValid, own_turns, saved_line, spelling, systems_of};
-ghost use Rattle.sim_play.specs.Playing.{MayReach};
+ghost use Rattle.std.specs.Prelude.{IfErr, IfOk, Some, ◌<◌, ◌≡◌, ◌≤◌};
+ghost use Rattle.sim_top.specs.{Commands.IsAnswerTo, Commands.shelved, Common.IsValid, Making.IsMadeOf, Making.status_made};
+ghost use Rattle.sim_top.specs.{Outcome.stored_at as stored_outcome, Returning.RigsCameBack, Stops.AreEight, Words.to_store};
 
 use super::{Answer, Equipment, Saved};
 use crate::inputs::read_match;
@@ -36,9 +34,9 @@ impl Equipment<'_> {
         let setup = read_match(self.alloc, shelf, game)?;
         reached(&setup, turn)?;
         let rig = take_first(&mut self.rigs);
-        let (answer, rig) = self.stored_at(&setup, turn, out, rig);
+        let (state, rig) = state_at(self.alloc, &setup, turn, rig, self.orders);
         put_first(&mut self.rigs, rig);
-        answer
+        kept_state(self.alloc, &setup, state, out)
     }
 }
 
@@ -56,24 +54,6 @@ pub fn reached<'w>(setup: &Setup, turn: u32) -> Result<(), Stop<'w>>
     Ok(())
 }
 
-impl Equipment<'_> {
-    // Stores the state of a turn that the match has.
-    fn stored_at<'w>(
-        &self,
-        setup: &Setup,
-        turn: u32,
-        out: &'w str,
-        rig: Rig,
-    ) -> (Result<Answer<'w>, Stop<'w>>, Rig)
-        requires { MayReach setup.now turn (systems_of rig ⟦<dyn System as System>⟧) }
-        ensures made { IsMade (store_outcome setup.now turn out.now) result.0 }
-        ensures played { HasPlayed ⟦<dyn System as System>⟧ setup.now (after setup.now (own_turns setup.now 0 turn)) result.0 rig result.1 }
-    {
-        let (state, rig) = state_at(self.alloc, setup, turn, rig, self.orders);
-        (kept_state(self.alloc, setup, state, out), rig)
-    }
-}
-
 // The state of a turn as a file and its line, if there was memory for it.
 fn kept_state<'w>(
     alloc: Global,
@@ -85,23 +65,17 @@ fn kept_state<'w>(
     ensures { IsMadeOf state (λ state. stored_outcome setup.now state.turn out.now state) result }
 {
     let state = state?;
-    let (bytes, text) = stored(alloc, setup, &state)?;
+    let bytes = spell(alloc, setup, &state)?;
+    let mut text = String::new(alloc);
+    push_saved(
+        state.turn,
+        bytes.len(),
+        &digest(setup, &state),
+        &mut text,
+    )?;
     Ok(Answer {
         status: Status::Done,
         text,
         saved: Some(Saved { name: out, bytes }),
     })
-}
-
-// The bytes of a state, and the line that is printed of it.
-fn stored(alloc: Global, setup: &Setup, state: &State) -> Result<(Vec<u8>, String), OutOfMemory>
-    requires { IsValid setup.now state.now }
-    ensures bytes { IfOk result (λ made. made.0.items ≡ spelling setup.now state.now) }
-    ensures text { IfOk result (λ made. string_bytes made.1 ≡ saved_line state.now.turn (length (spelling setup.now state.now))
-        (digest_of setup.now state.now)) }
-{
-    let bytes = spell(alloc, setup, state)?;
-    let mut text = String::new(alloc);
-    push_saved(state.turn, bytes.len(), &digest(setup, state), &mut text)?;
-    Ok((bytes, text))
 }

@@ -1,9 +1,8 @@
 //! The match of a trial, which is made of three numbers and read from no file.
 
-ghost use Rattle.{sim_play.specs.Playing.MayBegin, sim_top.specs.Commands.IsAnswerTo, sim_top.specs.Commands.Shelved};
-ghost use Rattle.sim_top.specs.Common.{after, File, IsTrial, IsValid, own_turns, systems_of, trial_line};
-ghost use Rattle.sim_top.specs.{Making.IsMade, Making.status_made, Outcome.trial_outcome, Returning.RigsCameBack, Rigs.AreEight, Rigs.HasPlayed, Words.to_try};
-ghost use Rattle.std.specs.Prelude.{◌≡◌, IfOk, IsErr, List, OnErr, Option, Some, string_bytes};
+ghost use Rattle.std.specs.Prelude.{IfOk, IsErr, List, OnErr, Option, Some, string_bytes, ◌≡◌};
+ghost use Rattle.sim_top.specs.{Commands.IsAnswerTo, Commands.Shelved, Common.File, Common.IsTrial, Common.IsValid, Common.trial_line, Making.status_made};
+ghost use Rattle.sim_top.specs.{Returning.RigsCameBack, Stops.AreEight, Words.to_try};
 
 use super::{Answer, Equipment, shown};
 use crate::inputs::trial_match;
@@ -27,24 +26,9 @@ impl Equipment<'_> {
         let (seed, units, turns) = numbers;
         let setup = trial_match(self.alloc, seed, units, turns)?;
         let rig = take_first(&mut self.rigs);
-        let (answer, rig) = self.tried(numbers, &setup, rig);
+        let (state, rig) = state_at(self.alloc, &setup, setup.turns, rig, self.orders);
         put_first(&mut self.rigs, rig);
-        answer
-    }
-
-    // Plays the match that was made of a trial's numbers.
-    fn tried<'w>(
-        &self,
-        numbers: (u32, u32, u32),
-        setup: &Setup,
-        rig: Rig,
-    ) -> (Result<Answer<'w>, Stop<'w>>, Rig)
-        requires { MayBegin setup.now (systems_of rig ⟦<dyn System as System>⟧) }
-        ensures made { IsMade (trial_outcome numbers.0 numbers.1 numbers.2 setup.now) result.0 }
-        ensures played { HasPlayed ⟦<dyn System as System>⟧ setup.now (after setup.now (own_turns setup.now 0 setup.now.turns)) result.0 rig result.1 }
-    {
-        let (state, rig) = state_at(self.alloc, setup, setup.turns, rig, self.orders);
-        (shown(trial_text(self.alloc, numbers, setup, state)), rig)
+        shown(trial_text(self.alloc, numbers, &setup, state))
     }
 }
 

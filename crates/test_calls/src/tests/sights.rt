@@ -1,7 +1,8 @@
 //! What an observer sees who has kept a list of states, and who joins later with the explored cells of a file. The numbers were
 //! worked out by hand.
 
-ghost use Rattle.{sim_base.specs.Limits.IsSetup, sim_base.specs.Validity.IsValid, std.specs.Prelude.IfOk};
+ghost use Rattle.std.specs.Prelude.{IfOk};
+ghost use Rattle.sim_base.specs.Limits.{IsSetup, IsValid};
 
 use sim_base::{Aim, Cell, Fixed, Items, OutOfMemory, Row, Setup, State, centre_of};
 use sim_codec::is_valid;

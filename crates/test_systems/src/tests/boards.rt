@@ -1,7 +1,8 @@
 //! Worked rows, each over a board that is started from a match file.
 
-ghost use Rattle.{sim_base.specs.Limits.IsSetup, sim_base.specs.Validity.IsValid, sim_system.specs.Meanings.HaveKinds, sim_system.specs.RigWords.systems_of};
-ghost use Rattle.{sim_board.specs.BoardWords.IsWhole, sim_board.specs.BoardWords.setup_in, sim_board.specs.BoardWords.systems, std.specs.Prelude.IfOk};
+ghost use Rattle.std.specs.Prelude.{IfOk};
+ghost use Rattle.{sim_base.specs.Limits.IsSetup, sim_base.specs.Limits.IsValid, sim_board.specs.Boards.IsWhole, sim_board.specs.Boards.setup_in};
+ghost use Rattle.{sim_board.specs.Boards.systems, sim_system.specs.Meanings.HaveKinds, sim_system.specs.RigWords.systems_of};
 
 use crate::tests::checks::{answer, can_leave, change};
 use sim_base::{Cell, Change, Fixed, Items, OutOfMemory, Point, Setup, State};

@@ -1,8 +1,8 @@
 //! Changes that fit and asks that are allowed, found at run time. What a test does to a board, it does by these.
 
-ghost use Rattle.{sim_base.specs.Validity.IsLooselyValid, sim_board.specs.BoardWords.IsWhole, std.specs.Prelude.OnOk, std.specs.Prelude.IsTrue};
-ghost use Rattle.{sim_plans.specs.Fits.Fits, sim_system.specs.Meanings.MayAsk};
 ghost use Rattle.sim_base.specs.declared.change.Change.TheVariants as change;
+ghost use Rattle.std.specs.Prelude.{IsTrue, OnOk};
+ghost use Rattle.{sim_base.specs.Limits.IsLooselyValid, sim_board.specs.Boards.IsWhole, sim_plans.specs.RowChanges.Fits, sim_system.specs.Meanings.MayAsk};
 
 use sim_base::{Change, OutOfMemory, Setup, State};
 use sim_board::Board;

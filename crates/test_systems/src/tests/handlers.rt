@@ -1,11 +1,11 @@
 //! A handler that plans by a function of the test's own, with the same fact: the match comes to the same states, and where the
 //! function gives up, the run ends with that. A table that calls the usual planners would go on.
 
-ghost use Rattle.{sim_base.specs.declared.change.Change.TheVariants.Owner, sim_base.specs.declared.state.Row.Row as AnyRow, std.specs.List.flat_map};
-ghost use Rattle.{sim_client.specs.StageWords.AreCleared, sim_orders.specs.Orders.Fulfils, sim_orders.specs.Orders.IsGiven, sim_orders.specs.Orders.kind_of};
-ghost use Rattle.std.specs.Prelude.{◌≡◌, [], ◌∷◌, length, IfOk, if◌then◌else◌, ◌==◌, All};
-ghost use Rattle.sim_stock.specs.Deeds.{deed as deed_of, IsAsked};
-ghost use Rattle.sim_system.specs.{Meanings.HaveKinds, RigWords.systems_of};
+ghost use Rattle.std.specs.List.{flat_map};
+ghost use Rattle.std.specs.Prelude.{[], All, IfOk, if◌then◌else◌, length, ◌==◌, ◌∷◌, ◌≡◌};
+ghost use Rattle.{sim_base.specs.declared.change.Change.TheVariants.Owner, sim_base.specs.declared.state.Row.Row as AnyRow, sim_stock.specs.PaidTurns.IsAsked};
+ghost use Rattle.{sim_client.specs.StageWords.AreCleared, sim_stock.specs.PaidTurns.deed as deed_of, sim_system.specs.RigWords.systems_of};
+ghost use Rattle.{sim_orders.specs.Orders.Fulfils, sim_orders.specs.Orders.IsGiven, sim_orders.specs.Orders.kind_of, sim_system.specs.Meanings.HaveKinds};
 
 use crate::tests::runs::{ended, play, printed};
 use sim_base::{Change, Changes, Items, OutOfMemory, Row};

@@ -41,7 +41,7 @@ pub struct Site {
 }
 
 impl Model for Site {
-    ghost use Rattle.{sim_grid.specs.Grids.field_of_grid, sim_grid.specs.Grids.OpenCells, sim_search.specs.Floods.label_in, sim_search.specs.Regions.AreLabels};
+    ghost use Rattle.{sim_grid.specs.Grids.OpenCells, sim_grid.specs.Grids.field_of_grid, sim_search.specs.Floods.AreLabels, sim_search.specs.Floods.label_in};
 
     ghost Value = { OpenCells };
 

@@ -1,4 +1,4 @@
-use Rattle.{sim_base.specs.Aim.aimed, sim_plans.proofs.AimPlan.aim_plan_is, sim_plans.proofs.Answered.answered, sim_plans.specs.Plans.aim_plan}
+use Rattle.{sim_base.specs.Turn.aimed, sim_plans.proofs.AimPlan.aim_plan_is, sim_plans.proofs.Answered.answered, sim_plans.specs.Plans.aim_plan}
 
 pub returns : Rattle.sim_attack.proofs.aim.aim_changes.Goals.returns
 returns g c =

@@ -1,10 +1,10 @@
 -- What is taken from a find is what the row finds, and what the row finds is kept as what its owner finds from there.
-use Rattle.{sim_base.specs.Filters.seen, sim_base.specs.Rows.row_of, sim_system.specs.Answers.seen_from, sim_system.specs.Answers.seen_with}
-use Rattle.std.{proofs.lemmas.List.Elements.All-same, proofs.lemmas.List.Elements.All-set, specs.Prelude.IfSome, specs.Prelude.Option}
-use Rattle.std.proofs.Common.{◌≡◌, get_or, Some, None, ap, rules, sym, ◌∙◌}
-use Rattle.sim_attack.proofs.Sharing.{filled_found, found_at, seen_is_nearest, shared_is_nearest}
-use Rattle.sim_attack.specs.{Finds.filled, Finds.nearest_from, Finds.place_for, Nearest.nearest_of, declared.finds.Find.Find}
 use Rattle.sim_attack.proofs.aim.nearest_seen.Goals as goal
+use Rattle.sim_attack.proofs.Sharing.{filled_found, found_at, seen_is_nearest, shared_is_nearest}
+use Rattle.sim_attack.specs.{Finds.filled, Finds.nearest_from, Finds.nearest_of, Finds.place_for, declared.finds.Find.Find}
+use Rattle.std.proofs.Common.{ap, get_or, None, rules, Some, sym, ◌∙◌, ◌≡◌}
+use Rattle.std.{proofs.lemmas.List.Elements.All-same, proofs.lemmas.List.Elements.All-set, specs.Prelude.IfSome, specs.Prelude.Option}
+use Rattle.{sim_base.specs.Commands.seen, sim_base.specs.Rows.row_of, sim_system.specs.Meanings.seen_from, sim_system.specs.Meanings.seen_with}
 
 pub returns-in-Some-clause-target : goal.returns-in-Some-clause-target
 returns-in-Some-clause-target g c =

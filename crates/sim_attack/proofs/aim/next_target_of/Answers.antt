@@ -1,10 +1,9 @@
 -- The nearest that the row sees is its target where it may take it; else it has none.
-use Rattle.{sim_base.specs.Aim.may_take, sim_base.specs.Filters.seen, sim_plans.specs.Plans.next_target}
-use Rattle.std.proofs.Common.{◌≡◌, true, false, ap, rules, sym, ◌∙◌}
-use Rattle.sim_attack.{proofs.Sharing.seen_is_nearest, proofs.Taking.target_from, specs.Nearest.nearest_of}
-use Rattle.sim_attack.proofs.aim.next_target_of.Goals as goal
+use Rattle.std.proofs.Common.{sym, true, ◌∙◌, ◌≡◌}
+use Rattle.{sim_attack.proofs.Sharing.seen_is_nearest, sim_attack.proofs.Sharing.target_from, sim_attack.specs.Finds.nearest_of, sim_base.specs.Commands.seen}
+use Rattle.{sim_base.specs.Turn.may_take, sim_plans.specs.Plans.next_target, std.proofs.Common.ap, std.proofs.Common.false, std.proofs.Common.rules}
 
-pub returns-then-may_take-clause-target : goal.returns-then-may_take-clause-target
+pub returns-then-may_take-clause-target : Rattle.sim_attack.proofs.aim.next_target_of.Goals.returns-then-may_take-clause-target
 returns-then-may_take-clause-target g c =
     let setup = c.args.scene.now.setup.now in
     let state = c.args.scene.now.state.now in
@@ -16,7 +15,7 @@ returns-then-may_take-clause-target g c =
     let takes : may_take state row arms target ≡ true = search rules in
     target_from setup state row arms target true nearest takes ∙ ap (next_target setup state row) c.in-Some.ensures
 
-pub returns-else-may_take-clause-target : goal.returns-else-may_take-clause-target
+pub returns-else-may_take-clause-target : Rattle.sim_attack.proofs.aim.next_target_of.Goals.returns-else-may_take-clause-target
 returns-else-may_take-clause-target g c =
     let setup = c.args.scene.now.setup.now in
     let state = c.args.scene.now.state.now in

@@ -1,4 +1,4 @@
-use Rattle.{sim_base.specs.Hit.gone, sim_plans.proofs.Answered.answered, sim_plans.proofs.RemovePlan.gone_plan_is, sim_plans.specs.Plans.gone_plan}
+use Rattle.{sim_base.specs.Turn.gone, sim_plans.proofs.Answered.answered, sim_plans.proofs.CommandPlan.gone_plan_is, sim_plans.specs.Plans.gone_plan}
 
 pub returns : Rattle.sim_attack.proofs.gone.gone_changes.Goals.returns
 returns g c =

@@ -1,4 +1,4 @@
-use Rattle.{sim_base.specs.Hit.hit, sim_plans.proofs.Answered.answered, sim_plans.proofs.HitPlan.hit_plan_is, sim_plans.specs.Plans.hit_plan}
+use Rattle.{sim_base.specs.Turn.hit, sim_plans.proofs.Answered.answered, sim_plans.proofs.RowByRow.hit_plan_is, sim_plans.specs.Plans.hit_plan}
 
 pub returns : Rattle.sim_attack.proofs.hit.hit_changes.Goals.returns
 returns g c =

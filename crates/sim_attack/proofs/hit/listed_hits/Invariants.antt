@@ -1,9 +1,8 @@
-use Rattle.{sim_attack.proofs.Fighting.IsFar, sim_attack.specs.Fights.AreTaken, sim_plans.specs.Plans.fight_changes_of, sim_plans.specs.Plans.hurt_changes_of}
-use Rattle.std.proofs.Common.{◌≡◌, ◌*◌, ◌^◌, ◌<◌, ◌≤◌, ◌∷◌, ◌++◌, length, take, All, flat_map}
-use Rattle.sim_base.specs.{Hit.hitting, declared.change.Change.TheVariants.Word}
-use Rattle.sim_attack.proofs.hit.listed_hits.Given as goal
+use Rattle.std.proofs.Common.{All, flat_map, length, take, ◌*◌, ◌++◌, ◌<◌, ◌^◌, ◌∷◌, ◌≡◌, ◌≤◌}
+use Rattle.{sim_attack.proofs.Fighting.IsFar, sim_attack.specs.Fights.AreTaken, sim_base.specs.Turn.hitting}
+use Rattle.{sim_base.specs.declared.change.Change.TheVariants.Word, sim_plans.specs.Plans.fight_changes_of, sim_plans.specs.Plans.hurt_changes_of}
 
-abbrev pub invariant-loop-row : goal.invariant-loop-row
+abbrev pub invariant-loop-row : Rattle.sim_attack.proofs.hit.listed_hits.Given.invariant-loop-row
 invariant-loop-row l =
     record {
       changes : l.changes ≡ flat_map (fight_changes_of l.setup l.state) (take l.row-index l.state.rows);
@@ -13,7 +12,7 @@ invariant-loop-row l =
       small : All (λ n. n ≤ l.row-index * 196608000) l.damage.items;
     }
 
-abbrev pub invariant-loop-at : goal.invariant-loop-at
+abbrev pub invariant-loop-at : Rattle.sim_attack.proofs.hit.listed_hits.Given.invariant-loop-at
 invariant-loop-at l =
     record {
       changes : l.changes ≡ flat_map (fight_changes_of l.setup l.state) l.state.rows ++ Word (hitting l.setup l.state).word ∷

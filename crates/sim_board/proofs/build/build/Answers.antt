@@ -5,19 +5,19 @@ use Rattle.sim_board.proofs.build.build.Goals as goal
 
 pub rebuild-requires-clause-facts : goal.rebuild-requires-clause-facts
 rebuild-requires-clause-facts g c = subst (AreInRange c.args.setup.now.land) (sym (c.as_slice-facts.ensures ∙ c.in_ok-facts.ensures))
-    (state_in_range c.args.setup.now c.args.state.now c.requires.limits c.requires.valid)
+    (state_in_range c.args.setup.now c.args.state.now c.requires.loose.limits c.requires.loose.valid)
 
 pub rebuild-requires-2-clause-facts : goal.rebuild-requires-2-clause-facts
 rebuild-requires-2-clause-facts g c = subst (AreInRange c.args.setup.now.land) (sym (c.as_slice-facts.ensures ∙ c.in_ok-facts.ensures))
-    (state_in_range c.args.setup.now c.args.state.now c.requires.limits c.requires.valid)
+    (state_in_range c.args.setup.now c.args.state.now c.requires.loose.limits c.requires.loose.valid)
 
 pub rebuild-requires-3-clause-facts : goal.rebuild-requires-3-clause-facts
 rebuild-requires-3-clause-facts g c = subst (AreInRange c.args.setup.now.land) (sym (c.as_slice-facts.ensures ∙ c.in_ok-facts.ensures))
-    (state_in_range c.args.setup.now c.args.state.now c.requires.limits c.requires.valid)
+    (state_in_range c.args.setup.now c.args.state.now c.requires.loose.limits c.requires.loose.valid)
 
 pub rebuild-requires-4-clause-facts : goal.rebuild-requires-4-clause-facts
 rebuild-requires-4-clause-facts g c = subst (AreInRange c.args.setup.now.land) (sym (c.as_slice-facts.ensures ∙ c.in_ok-facts.ensures))
-    (state_in_range c.args.setup.now c.args.state.now c.requires.limits c.requires.valid)
+    (state_in_range c.args.setup.now c.args.state.now c.requires.loose.limits c.requires.loose.valid)
 
 pub returns-in_err-rebuild-clause-most : goal.returns-in_err-rebuild-clause-most
 returns-in_err-rebuild-clause-most g c = record {

@@ -1,9 +1,8 @@
 -- No system is built by the changes.
 use Rattle.sim_board.proofs.{Common.sym, Common.◌∙◌, Counting.most_kept, Counting.once_kept}
-use Rattle.sim_board.proofs.follow.adopt_and_apply.Goals as goal
 use Rattle.std.proofs.lemmas.Result.{err_from_is_err_and}
 
-pub returns-in_err-adopt : goal.returns-in_err-adopt
+pub returns-in_err-adopt : Rattle.sim_board.proofs.follow.adopt_and_apply.Goals.returns-in_err-adopt
 returns-in_err-adopt g c =
     let begins = c.in_err-adopt.ensures in
     let p = err_from_is_err_and c.from_residual.result c.from_residual.ensures.1 in
@@ -17,7 +16,7 @@ returns-in_err-adopt g c =
       setup = begins.setup;
     })
 
-pub returns : goal.returns
+pub returns : Rattle.sim_board.proofs.follow.adopt_and_apply.Goals.returns
 returns g c =
     let begins = c.in_ok-adopt.ensures in
     let makes = c.apply_all.ensures in

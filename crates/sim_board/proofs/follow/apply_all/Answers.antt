@@ -1,9 +1,8 @@
 -- Behind the last change none is left. One for which there was no memory ends it. No system was built.
 use Rattle.sim_board.proofs.{Common.◌∙◌, Common.ap, Common.applied_all, Common.length, Common.sym, Keeping.kept_on}
 use Rattle.std.proofs.{Common.arith, lemmas.List.drop_all, lemmas.Result.err_from_is_err_and}
-use Rattle.sim_board.proofs.follow.apply_all.Goals as goal
 
-pub returns-in_err-make : goal.returns-in_err-make
+pub returns-in_err-make : Rattle.sim_board.proofs.follow.apply_all.Goals.returns-in_err-make
 returns-in_err-make g c =
     let made = c.in_err-make.ensures in
     let p = err_from_is_err_and c.from_residual.result c.from_residual.ensures.1 in
@@ -15,7 +14,7 @@ returns-in_err-make g c =
       setup = made.setup ∙ c.loop-at.invariant.same;
     })
 
-pub returns : goal.returns
+pub returns : Rattle.sim_board.proofs.follow.apply_all.Goals.returns
 returns g c =
     let all = c.loop-at.invariant in
     record {

@@ -1,6 +1,6 @@
 -- The row at the place that was found is the only one with its id, and has the target already.
-use Rattle.sim_board.proofs.Common.{List, Some, cond, map, ap, applied, Row, subst, sym, ◌==◌, ◌∙◌}
-use Rattle.sim_board.{proofs.Quieting.keeps_there, proofs.Setting.set_found, specs.ChangeKinds.KeepsTarget}
+use Rattle.sim_board.proofs.Common.{List, Row, Some, ap, applied, cond, map, subst, sym, ◌==◌, ◌∙◌}
+use Rattle.sim_board.{proofs.Quieting.keeps_there, proofs.Setting.set_found, specs.Boards.KeepsTarget}
 
 pub returns-then-target-aim-clause-made : Rattle.sim_board.proofs.quiet.keep_aim.Goals.returns-then-target-aim-clause-made
 returns-then-target-aim-clause-made c =

@@ -1,5 +1,5 @@
 -- What is answered are the entities of the client's state, in the words of their definition.
-use Rattle.sim_c.{proofs.Looked.looked_is, proofs.Looked.looked_none, specs.GivesHeld.looked}
+use Rattle.sim_c.{proofs.Looked.looked_is, proofs.Looked.looked_none, specs.Gives.looked}
 use Rattle.std.proofs.{Common.rules, Common.w32, lemmas.Int.to_z-of_z}
 use mir.Val.{SFits}
 

@@ -1,6 +1,6 @@
 -- What is answered is the stamp of the client, for which no memory is wanted.
-use Rattle.{sim_c.proofs.Looked.stamped_none, sim_c.specs.Gives.stamp, sim_c.specs.GivesHeld.GivesStamp, std.proofs.Common.refl}
-use Rattle.std.{proofs.Common.rules, proofs.Common.subst, proofs.Common.sym, proofs.Common.w32, proofs.lemmas.Int.to_z-of_z, specs.Prelude.Ok, specs.Prelude.ℤ}
+use Rattle.std.proofs.{Common.refl, Common.rules, Common.subst, Common.sym, Common.w32, lemmas.Int.to_z-of_z}
+use Rattle.{sim_c.proofs.Looked.stamped_none, sim_c.specs.Gives.GivesStamp, sim_c.specs.Gives.stamp, std.specs.Prelude.Ok, std.specs.Prelude.ℤ}
 use mir.Val.{SFits}
 
 pub returns : Rattle.sim_c.proofs.looks.client_stamp.Goals.returns

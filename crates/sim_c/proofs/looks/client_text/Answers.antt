@@ -1,5 +1,5 @@
 -- What is answered is the text of the client's state, in the words of its definition.
-use Rattle.sim_c.{proofs.Looked.looked_is, proofs.Looked.looked_none, specs.GivesHeld.looked}
+use Rattle.sim_c.{proofs.Looked.looked_is, proofs.Looked.looked_none, specs.Gives.looked}
 use Rattle.std.{proofs.Common.rules, proofs.Common.w32, proofs.lemmas.Int.to_z-of_z, specs.Prelude.string_bytes}
 use mir.Val.{SFits}
 

@@ -1,9 +1,8 @@
 -- One point more passes.
 use Rattle.sim_codec.proofs.{Checked.all_seen, Checked.one_more, Common.◌∙◌}
 use Rattle.sim_codec.proofs.Common.{ℕ, ◌↔◌, List, [], IsTrue, ap, get_or, get_or_default, IsInside, point_in, refl, subst}
-use Rattle.sim_codec.proofs.validity.are_stored_inside.Goals as goal
 
-pub loop-bytes-preserved : goal.loop-bytes-preserved
+pub loop-bytes-preserved : Rattle.sim_codec.proofs.validity.are_stored_inside.Goals.loop-bytes-preserved
 loop-bytes-preserved c =
     let stored = c.args.stored.now in
     let i = c.loop-bytes.bytes-index in
@@ -14,7 +13,7 @@ loop-bytes-preserved c =
     (subst (λ p. IsTrue c.is_inside_setup.result ↔ IsInside c.args.setup.now p) point c.is_inside_setup.ensures) c.if-not-is_inside_setup.false
     c.loop-bytes.invariant
 
-pub returns : goal.returns
+pub returns : Rattle.sim_codec.proofs.validity.are_stored_inside.Goals.returns
 returns c = (
   λ _. all_seen (λ bytes. IsInside c.args.setup.now (point_in bytes)) c.args.stored.now c.loop-bytes.bytes-index c.loop-bytes-test.false c.loop-bytes.invariant,
   λ _. refl,

@@ -1,8 +1,8 @@
 -- The first part that differs of an entity before which all is the same is the least place.
-use Rattle.sim_diff.proofs.{LeastPlace.least-difference_of, LeastPlace.same-difference_of, Parts.first-is_first, Parts.no_first-same, Rising.rising}
-use Rattle.sim_diff.proofs.Common.{arith, sym, ◌∙◌}
-use Rattle.sim_diff.proofs.Walk.{first_is_least, rising_behind, rows_of_all, rows_of_behind, same_at_first, same_at_last, same_behind, same_below, same_more}
 use Rattle.sim_diff.proofs.merge.difference.Goals as goal
+use Rattle.sim_diff.proofs.OneSpelling.{first_is_least, rising, rising_behind, rows_of_all, rows_of_behind, same_at_first, same_at_last, same_behind}
+use Rattle.sim_diff.proofs.{Common.arith, Common.sym, Common.◌∙◌, LeastPlace.first-is_first, LeastPlace.least-difference_of, LeastPlace.no_first-same}
+use Rattle.sim_diff.proofs.{LeastPlace.same-difference_of, OneSpelling.same_below, OneSpelling.same_more}
 
 pub returns-in-Some-clause-least : goal.returns-in-Some-clause-least
 returns-in-Some-clause-least c =

@@ -1,7 +1,7 @@
 -- All that was passed is the same: the entities below the counter, and then those of which neither list has a row left.
-use Rattle.sim_diff.proofs.{Common.◌≡◌, Common.ℕ, Common.◌+◌, Common.◌<◌, Common.length, Common.AreRowsOf, Common.bits, Common.Part, Walk.IsSameElsewhere}
-use Rattle.sim_diff.proofs.Rising.{Rising}
 use Rattle.sim_diff.proofs.merge.difference.Given as goal
+use Rattle.sim_diff.proofs.Common.{AreRowsOf, bits, length, Part, ℕ, ◌+◌, ◌<◌, ◌≡◌}
+use Rattle.sim_diff.proofs.OneSpelling.{IsSameElsewhere, Rising}
 
 abbrev pub invariant-first : goal.invariant-first
 invariant-first l = (id : ℕ) → id < l.entity → (part : Part) → bits l.left id part ≡ bits l.right id part

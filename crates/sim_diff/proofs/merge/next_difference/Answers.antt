@@ -1,5 +1,5 @@
 -- Of an entity of which both lists begin with the same row all parts are the same.
-use Rattle.sim_diff.proofs.{Common.arith, Parts.same-no_first, Walk.same_first-bits}
+use Rattle.sim_diff.proofs.{Common.arith, LeastPlace.same-no_first, OneSpelling.same_first-bits}
 
 pub returns-then-have_same_first : Rattle.sim_diff.proofs.merge.next_difference.Goals.returns-then-have_same_first
 returns-then-have_same_first c =

@@ -1,6 +1,6 @@
 -- The state on the board is the first one, which is valid.
-use Rattle.sim_base.specs.{Turn.first_state, Validity.IsValid}
-use Rattle.{sim_laws.proofs.Validity.first_state_is_valid, std.proofs.Common.◌≡◌, std.proofs.Common.subst, std.proofs.Common.sym}
+use Rattle.std.proofs.Common.{sym, ◌≡◌}
+use Rattle.{sim_base.specs.Limits.IsValid, sim_base.specs.Turn.first_state, sim_laws.proofs.Validity.first_state_is_valid, std.proofs.Common.subst}
 
 pub of-requires : Rattle.sim_embed.proofs.playing.begun.Goals.of-requires
 of-requires g c =

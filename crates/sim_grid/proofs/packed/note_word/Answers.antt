@@ -1,11 +1,9 @@
 -- One bit is set or cleared, and the others stay.
+use Rattle.std.proofs.Common.{ap, arith, length, nat_eq, sym, w64, ℕ, ◌%◌, ◌/◌, ◌<◌, ◌∙◌}
 use Rattle.std.proofs.lemmas.{List.get_or_default, Nat.Bits.bit_at_clear_other, Nat.Bits.bit_at_clear_same, Nat.Bits.bit_at_set_other, Nat.Bits.bit_at_set_same}
-use Rattle.std.proofs.Common.{ℕ, ◌/◌, ◌%◌, ◌<◌, length, nat_eq, ap, arith, sym, w64, ◌∙◌}
-use Rattle.std.specs.Int.{bit_at}
-use Rattle.sim_grid.proofs.Words.{packed_with}
-use Rattle.sim_grid.proofs.packed.note_word.Goals as goal
+use Rattle.{sim_grid.proofs.Words.packed_with, std.specs.Int.bit_at}
 
-pub returns-then-free : goal.returns-then-free
+pub returns-then-free : Rattle.sim_grid.proofs.packed.note_word.Goals.returns-then-free
 returns-then-free c = λ cells p lt.
     let k = c.args.place % 64 in
     let old = c.index_mut.result.now in
@@ -15,7 +13,7 @@ returns-then-free c = λ cells p lt.
     (λ i below apart. bit_at_set_other w64 old k (omega arith) i apart ∙
     ap (λ (w : ℕ). bit_at w i) (c.index_mut.ensures.value ∙ get_or_default c.args.words.now.items _ _ 0 within)) p lt
 
-pub returns-else-free : goal.returns-else-free
+pub returns-else-free : Rattle.sim_grid.proofs.packed.note_word.Goals.returns-else-free
 returns-else-free c = λ cells p lt.
     let k = c.args.place % 64 in
     let old = c.index_mut-else-free.result.now in

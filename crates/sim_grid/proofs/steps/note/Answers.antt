@@ -1,6 +1,7 @@
-use Rattle.sim_grid.{proofs.Beside.place-below, proofs.Beside.places-apart, specs.Grids.field_of_grid, specs.Grids.place_of, specs.StepBits.AreStepsFrom}
-use Rattle.{sim_grid.specs.StepBits.IsNoted, std.proofs.Common.◌<◌, std.proofs.Common.arith, std.proofs.Common.length}
-use Rattle.std.proofs.{Common.set, Common.subst, Common.sym, Common.ℕ, lemmas.List.get_or-set_other, lemmas.List.get_or-set_same, lemmas.List.length-set}
+use Rattle.sim_grid.proofs.Beside.{place-below, places-apart}
+use Rattle.sim_grid.specs.Grids.{AreStepsFrom, field_of_grid, IsNoted, place_of}
+use Rattle.std.proofs.Common.{arith, length, set, subst, sym, ℕ, ◌<◌}
+use Rattle.std.proofs.lemmas.List.{get_or-set_other, get_or-set_same, length-set}
 
 pub returns : Rattle.sim_grid.proofs.steps.note.Goals.returns
 returns c =

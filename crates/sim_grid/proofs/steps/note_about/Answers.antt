@@ -1,7 +1,7 @@
-use Rattle.std.proofs.Common.{ℕ, ◌+◌, Vec, Global, subst, sym, ◌∙◌}
-use Rattle.sim_grid.{proofs.Beside.noted-all, proofs.Beside.noted-first, proofs.Beside.noted-more, proofs.Beside.noted-past, specs.StepBits.AreStepsBefore}
-use Rattle.sim_grid.proofs.steps.note_about.Goals.{in-Some, in_default}
 use Rattle.sim_grid.proofs.steps.note_about.Goals as goal
+use Rattle.sim_grid.proofs.Beside.{noted-all, noted-first, noted-more, noted-past}
+use Rattle.sim_grid.{proofs.steps.note_about.Goals.in-Some, proofs.steps.note_about.Goals.in_default, specs.Grids.AreStepsBefore}
+use Rattle.std.proofs.Common.{Global, subst, sym, Vec, ℕ, ◌+◌, ◌∙◌}
 
 pub loop-which-init : goal.loop-which-init
 loop-which-init c = noted-first c.args.cells.now c.args.about c.args.steps.now.items c.note.new.steps.items c.requires.apart c.note.ensures

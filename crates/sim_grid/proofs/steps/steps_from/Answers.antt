@@ -1,6 +1,6 @@
-use Rattle.std.proofs.Common.{ℕ, ◌+◌, Bool, subst, sym, ◌∙◌}
 use Rattle.sim_grid.proofs.{Bits.AreBits, Bits.bits_more, Bits.bits_past, steps.steps_from.Goals.else-leads_on, steps.steps_from.Goals.then-leads_on}
-use Rattle.sim_grid.specs.{Grids.field_of_grid, StepBits.is_open_step}
+use Rattle.sim_grid.specs.Grids.{field_of_grid, is_open_step}
+use Rattle.std.proofs.Common.{Bool, subst, sym, ℕ, ◌+◌, ◌∙◌}
 
 pub loop-which-preserved : Rattle.sim_grid.proofs.steps.steps_from.Goals.loop-which-preserved
 loop-which-preserved c =

@@ -1,8 +1,7 @@
 -- A rectangle that came covers what is kept of the entity, and one that went what was kept of it.
 use Rattle.sim_ground.proofs.Common.{Bool, not, ◌&&◌, ap, is_open_at, is_some, label_in, Option, rect_covers, Rect, ◌∙◌}
-use Rattle.sim_ground.proofs.mended.are_mended.Goals as goal
 
-pub closed-requires : goal.closed-requires
+pub closed-requires : Rattle.sim_ground.proofs.mended.are_mended.Goals.closed-requires
 closed-requires c = record {
   labels = c.requires.labels;
   closes = λ e on.
@@ -11,7 +10,7 @@ closed-requires c = record {
       (c.rect_of-2.ensures e ∙ ap (λ (r : Option Rect). rect_covers r e) c.in-None-Some.is-1);
 }
 
-pub opened-requires : goal.opened-requires
+pub opened-requires : Rattle.sim_ground.proofs.mended.are_mended.Goals.opened-requires
 opened-requires c = record {
   labels = c.requires.labels;
   opens = λ e on.

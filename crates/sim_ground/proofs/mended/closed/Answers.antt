@@ -1,6 +1,6 @@
 -- The cells that are listed are those that were closed.
-use Rattle.sim_ground.proofs.{Adding.closed_cells, Common.Cell, Common.covers, Common.field_of_grid, Common.label_in, Common.List, Common.subst, Common.sym}
-use Rattle.sim_search.specs.Mending.{IsMore, labelled}
+use Rattle.sim_ground.proofs.{Adding.closed_cells, Common.Cell, Common.List, Common.covers, Common.field_of_grid, Common.label_in, Common.subst, Common.sym}
+use Rattle.sim_search.specs.Floods.{IsMore, labelled}
 
 pub mend_closed-requires-clause-closed : Rattle.sim_ground.proofs.mended.closed.Goals.mend_closed-requires-clause-closed
 mend_closed-requires-clause-closed c =

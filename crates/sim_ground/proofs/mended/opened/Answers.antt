@@ -1,6 +1,6 @@
 -- The cells that are listed are those that were opened.
-use Rattle.sim_ground.proofs.{Adding.opened_cells, Common.Cell, Common.covers, Common.field_of_grid, Common.label_in, Common.List, Common.subst, Common.sym}
-use Rattle.sim_search.specs.Mending.{IsMore, labelled}
+use Rattle.sim_ground.proofs.{Adding.opened_cells, Common.Cell, Common.List, Common.covers, Common.field_of_grid, Common.label_in, Common.subst, Common.sym}
+use Rattle.sim_search.specs.Floods.{IsMore, labelled}
 
 pub mend_opened-requires-clause-opened : Rattle.sim_ground.proofs.mended.opened.Goals.mend_opened-requires-clause-opened
 mend_opened-requires-clause-opened c =

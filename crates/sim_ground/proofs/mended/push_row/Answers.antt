@@ -1,7 +1,7 @@
 -- One cell more is added, if it was turned.
-use Rattle.sim_ground.{proofs.Adding.adds_more, proofs.Adding.adds_nothing, proofs.Stretches.row_more, proofs.Stretches.row_none, specs.Mended.AddsTurned}
-use Rattle.sim_ground.proofs.Common.{◌≡◌, ◌+◌, arith, Cell, in_row, label_in, same_cell, subst, ℕ}
 use Rattle.sim_ground.proofs.mended.push_row.Goals as goal
+use Rattle.sim_ground.proofs.{Adding.adds_more, Adding.adds_nothing, Common.Cell, Common.arith, Common.in_row, Common.label_in, Common.same_cell, Common.subst}
+use Rattle.sim_ground.{proofs.Common.ℕ, proofs.Common.◌+◌, proofs.Common.◌≡◌, proofs.Layers.row_more, proofs.Layers.row_none, specs.Mending.AddsTurned}
 
 pub loop-x-init : goal.loop-x-init
 loop-x-init c = record {

@@ -1,4 +1,4 @@
-use Rattle.sim_ground.{proofs.Common.in_row, proofs.Common.label_in, proofs.Common.◌≤◌, specs.Mended.AddsTurned}
+use Rattle.sim_ground.{proofs.Common.in_row, proofs.Common.label_in, proofs.Common.◌≤◌, specs.Mending.AddsTurned}
 
 abbrev pub invariant-loop-x : Rattle.sim_ground.proofs.mended.push_row.Given.invariant-loop-x
 invariant-loop-x l = record {

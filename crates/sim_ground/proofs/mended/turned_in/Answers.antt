@@ -1,8 +1,8 @@
 -- The cells of one row more are added, if they were turned, and in the end those of the window, which are those of the rectangle.
-use Rattle.sim_ground.proofs.{Adding.adds_more, Adding.adds_nothing, Adding.adds_same, Stretches.rows_more, Stretches.rows_none}
-use Rattle.sim_ground.proofs.Common.{◌≡◌, ◌+◌, [], List, Cell, arith, covers, in_row, in_rows, label_in, subst, sym, ℕ}
-use Rattle.sim_ground.specs.{Mended.AddsTurned, Windows.in_window}
 use Rattle.sim_ground.proofs.mended.turned_in.Goals as goal
+use Rattle.sim_ground.proofs.Common.{Cell, List, [], arith, covers, in_row, subst, sym, ℕ, ◌+◌, ◌≡◌}
+use Rattle.sim_ground.proofs.{Adding.adds_more, Adding.adds_nothing, Adding.adds_same, Common.in_rows, Common.label_in, Layers.rows_more, Layers.rows_none}
+use Rattle.sim_ground.specs.{Closing.in_window, Mending.AddsTurned}
 
 pub loop-z-init : goal.loop-z-init
 loop-z-init c =

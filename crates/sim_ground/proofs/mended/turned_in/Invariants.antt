@@ -1,4 +1,4 @@
-use Rattle.sim_ground.{proofs.Common.[], proofs.Common.in_rows, proofs.Common.label_in, proofs.Common.◌≤◌, specs.Mended.AddsTurned}
+use Rattle.sim_ground.{proofs.Common.[], proofs.Common.in_rows, proofs.Common.label_in, proofs.Common.◌≤◌, specs.Mending.AddsTurned}
 
 abbrev pub invariant-loop-z : Rattle.sim_ground.proofs.mended.turned_in.Given.invariant-loop-z
 invariant-loop-z l = record {

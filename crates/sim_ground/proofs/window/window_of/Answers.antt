@@ -1,8 +1,7 @@
 -- The cells between are those of the rectangle.
-use Rattle.sim_ground.proofs.{Common.arith, Common.rules, Common.SFits, Common.to_z-of_z, Common.w32, Stretches.rect_is}
-use Rattle.sim_ground.proofs.window.window_of.Goals as goal
+use Rattle.sim_ground.proofs.{Common.SFits, Common.arith, Common.rules, Common.to_z-of_z, Common.w32, Layers.rect_is}
 
-pub returns-clause-on : goal.returns-clause-on
+pub returns-clause-on : Rattle.sim_ground.proofs.window.window_of.Goals.returns-clause-on
 returns-clause-on c = record {
   rows = c.span-south.ensures.order;
   north = omega (arith, c.span-south.ensures.most, c.depth.ensures.depth);
@@ -10,7 +9,7 @@ returns-clause-on c = record {
   east = omega (arith, c.span-west.ensures.most, c.width.ensures.width);
 }
 
-pub returns-clause-same : goal.returns-clause-same
+pub returns-clause-same : Rattle.sim_ground.proofs.window.window_of.Goals.returns-clause-same
 returns-clause-same c =
     let south : SFits w32 c.args.rect.now.z0 = search rules in
     let north : SFits w32 c.args.rect.now.z1 = search rules in

@@ -1,9 +1,8 @@
 -- The state on the board is that of the client, before and behind.
-use Rattle.{sim_base.specs.Validity.IsValid, sim_board.specs.BoardWords.setup_in, sim_client.specs.KnownWords.AreByPlayers}
-use Rattle.sim_held.proofs.Common.{refl, subst, sym, ◌∙◌}
-use Rattle.sim_held.proofs.boards.play_on.Goals as goal
+use Rattle.sim_held.proofs.Common.{subst, sym, ◌∙◌}
+use Rattle.{sim_base.specs.Limits.IsValid, sim_board.specs.Boards.setup_in, sim_client.specs.StageWords.AreByPlayers, sim_held.proofs.Common.refl}
 
-pub play_turns-requires : goal.play_turns-requires
+pub play_turns-requires : Rattle.sim_held.proofs.boards.play_on.Goals.play_turns-requires
 play_turns-requires g c =
     let here = sym c.in_ok-adopt.ensures.setup in
     let state = sym (c.in_ok-adopt.ensures.state ∙ c.replace-state.ensures.value) in
@@ -14,7 +13,7 @@ play_turns-requires g c =
       known = subst (λ s. AreByPlayers s c.args.playing.now.seat.known) here c.requires.can.seated.known;
     }
 
-pub returns-clause-seated : goal.returns-clause-seated
+pub returns-clause-seated : Rattle.sim_held.proofs.boards.play_on.Goals.returns-clause-seated
 returns-clause-seated g c =
     let here = c.in_ok-adopt.ensures.setup in
     let on = c.in_ok-played.ensures.playing in

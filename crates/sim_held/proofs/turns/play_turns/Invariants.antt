@@ -1,12 +1,11 @@
 -- The run so far, and the board and the seat on which it goes on.
-use Rattle.{sim_board.specs.BoardWords.state_in, sim_client.specs.Lives.On, sim_client.specs.StageWords.IsPlayingBy, sim_client.specs.StageWords.player_at}
-use Rattle.sim_held.specs.{Runs.runs, Turns.RanOn}
-use Rattle.sim_held.proofs.turns.play_turns.Given as goal
+use Rattle.sim_held.specs.Clients.{RanOn, runs}
+use Rattle.{sim_board.specs.Boards.state_in, sim_client.specs.Lives.On, sim_client.specs.StageWords.IsPlayingBy, sim_client.specs.StageWords.player_at}
 
-abbrev pub invariant-loop-played : goal.invariant-loop-played
+abbrev pub invariant-loop-played : Rattle.sim_held.proofs.turns.play_turns.Given.invariant-loop-played
 invariant-loop-played g l =
     record {
       ran : RanOn (runs l.setup l.played (On (player_at (state_in l.fn.board) l.fn.playing.seat))) l.fn.playing.outbox l.played
           (On (player_at (state_in l.board) l.playing.seat)) l.playing.outbox;
-      playing : IsPlayingBy l.setup l.board l.playing.seat (λ i v. (goal.System-dyn g (i, v)).meaning v);
+      playing : IsPlayingBy l.setup l.board l.playing.seat (λ i v. (Rattle.sim_held.proofs.turns.play_turns.Given.System-dyn g (i, v)).meaning v);
     }

@@ -1,9 +1,8 @@
 -- The ids so far, and as many as there were items. Where an item is an id, the first one is.
-use Rattle.{serde_json.specs.View.view, sim_json.specs.Commands.id_in, sim_json.specs.Memory.begins_with_id, sim_json.specs.Records.records}
-use Rattle.std.proofs.Common.{◌≡◌, ◌+◌, ◌≤◌, true, [], map, length}
-use Rattle.sim_json.proofs.ids.ids_from.Given as goal
+use Rattle.std.proofs.Common.{[], length, map, true, ◌+◌, ◌≡◌, ◌≤◌}
+use Rattle.{serde_json.specs.View.view, sim_json.specs.Commands.begins_with_id, sim_json.specs.Commands.id_in, sim_json.specs.Commands.records}
 
-abbrev pub invariant-loop-rest : goal.invariant-loop-rest
+abbrev pub invariant-loop-rest : Rattle.sim_json.proofs.ids.ids_from.Given.invariant-loop-rest
 invariant-loop-rest l = record {
   same : records (λ done. id_in) l.found.items (map view l.rest) ≡ records (λ done. id_in) [] (map view l.items);
   count : length l.found.items + length l.rest ≡ length l.items;
@@ -11,5 +10,5 @@ invariant-loop-rest l = record {
   first : begins_with_id (map view l.rest) ≡ true → begins_with_id (map view l.items) ≡ true;
 }
 
-abbrev pub decreases-loop-rest : goal.decreases-loop-rest
+abbrev pub decreases-loop-rest : Rattle.sim_json.proofs.ids.ids_from.Given.decreases-loop-rest
 decreases-loop-rest l = length l.rest

@@ -1,4 +1,4 @@
-use Rattle.sim_laws.proofs.{Aiming.aimed_is_state, Common.refl}
+use Rattle.sim_laws.proofs.{Common.refl, Removing.aimed_is_state}
 
 pub returns : Rattle.sim_laws.proofs.phases.aiming_keeps.Goals.returns
 returns c = record {

@@ -1,4 +1,4 @@
-use Rattle.sim_laws.proofs.{Common.refl, Moving.moved_is_state}
+use Rattle.sim_laws.proofs.{Commanding.moved_is_state, Common.refl}
 
 pub returns : Rattle.sim_laws.proofs.phases.moving_keeps.Goals.returns
 returns c = record {

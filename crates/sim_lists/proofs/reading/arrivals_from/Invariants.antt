@@ -1,10 +1,9 @@
 -- The arrivals so far, each from a client.
-use Rattle.{serde_json.specs.View.view, sim_json.specs.Records.numbered}
-use Rattle.std.proofs.Common.{◌≡◌, ℕ, [], map, length, Some, All}
-use Rattle.sim_lists.specs.{Arrivals.arrival_of, Early.early_items, Schedules.IsFromClient, Taking.arrival_takes}
-use Rattle.sim_lists.proofs.reading.arrivals_from.Given as goal
+use Rattle.std.proofs.Common.{length, map, ℕ, ◌≡◌}
+use Rattle.{serde_json.specs.View.view, sim_json.specs.Commands.numbered, sim_lists.specs.Arrivals.arrival_of, sim_lists.specs.Arrivals.arrival_takes}
+use Rattle.{sim_lists.specs.StepLists.IsFromClient, sim_lists.specs.StepLists.early_items, std.proofs.Common.All, std.proofs.Common.Some, std.proofs.Common.[]}
 
-abbrev pub invariant-loop-rest : goal.invariant-loop-rest
+abbrev pub invariant-loop-rest : Rattle.sim_lists.proofs.reading.arrivals_from.Given.invariant-loop-rest
 invariant-loop-rest l = record {
   start : (i : ℕ) → early_items (arrival_of l.clients) (arrival_takes l.clients) (map view l.items) ≡ Some i → (map view l.rest ≡ map view l.items)
       × (length l.found.items ≡ 0);
@@ -12,5 +11,5 @@ invariant-loop-rest l = record {
   clients : All (IsFromClient l.clients) l.found.items;
 }
 
-abbrev pub decreases-loop-rest : goal.decreases-loop-rest
+abbrev pub decreases-loop-rest : Rattle.sim_lists.proofs.reading.arrivals_from.Given.decreases-loop-rest
 decreases-loop-rest l = length l.rest

@@ -1,10 +1,9 @@
 -- The steps so far, each of a player.
-use Rattle.{serde_json.specs.View.view, sim_json.specs.Records.numbered}
-use Rattle.std.proofs.Common.{◌≡◌, ℕ, [], map, length, Some, All}
-use Rattle.sim_lists.specs.{Early.early_items, StepLists.IsStep, Steps.step_of, Taking.step_takes}
-use Rattle.sim_lists.proofs.step_reading.steps_from.Given as goal
+use Rattle.std.proofs.Common.{length, map, ℕ, ◌≡◌}
+use Rattle.{serde_json.specs.View.view, sim_json.specs.Commands.numbered, sim_lists.specs.Arrivals.step_takes, sim_lists.specs.StepLists.IsStep}
+use Rattle.{sim_lists.specs.StepLists.early_items, sim_lists.specs.StepLists.step_of, std.proofs.Common.All, std.proofs.Common.Some, std.proofs.Common.[]}
 
-abbrev pub invariant-loop-rest : goal.invariant-loop-rest
+abbrev pub invariant-loop-rest : Rattle.sim_lists.proofs.step_reading.steps_from.Given.invariant-loop-rest
 invariant-loop-rest l = record {
   start : (i : ℕ) → early_items (step_of l.players) (step_takes l.players) (map view l.items) ≡ Some i → (map view l.rest ≡ map view l.items)
       × (length l.found.items ≡ 0);
@@ -12,5 +11,5 @@ invariant-loop-rest l = record {
   limits : All (IsStep l.players) l.found.items;
 }
 
-abbrev pub decreases-loop-rest : goal.decreases-loop-rest
+abbrev pub decreases-loop-rest : Rattle.sim_lists.proofs.step_reading.steps_from.Given.decreases-loop-rest
 decreases-loop-rest l = length l.rest

@@ -1,9 +1,9 @@
 -- What a line asks for is read first, and then answered.
-use Rattle.sim_live.specs.{declared.line.Line.Line, LineWords.IsLine, LineWords.line_of, Live.answer_to, Live.steps_with}
-use Rattle.{sim_plain_session.specs.Sessions.session, sim_session.specs.SessionWords.seen_in, sim_session.specs.Standing.StandsFor}
-use Rattle.std.proofs.Common.{◌≡◌, ℕ, List, ◌++◌, length, ap, subst, ◌∙◌}
-use Rattle.sim_base.specs.declared.setup.Setup.{Setup}
 use Rattle.sim_live.proofs.answering.answer.Goals as goal
+use Rattle.std.proofs.Common.{ℕ, ◌++◌, ◌∙◌, ◌≡◌}
+use Rattle.{sim_base.specs.declared.setup.Setup.Setup, sim_live.specs.Live.IsLine, sim_live.specs.Live.answer_to, sim_live.specs.Live.line_of}
+use Rattle.{sim_live.specs.Live.steps_with, sim_live.specs.declared.line.Line.Line, sim_plain_session.specs.Sessions.session, sim_session.specs.Going.seen_in}
+use Rattle.{sim_session.specs.Standing.StandsFor, std.proofs.Common.List, std.proofs.Common.ap, std.proofs.Common.length, std.proofs.Common.subst}
 
 pub push_answer-requires-clause-line : goal.push_answer-requires-clause-line
 push_answer-requires-clause-line g c =

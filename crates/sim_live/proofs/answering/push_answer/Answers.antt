@@ -1,9 +1,8 @@
 -- What is answered to each of the three.
-use Rattle.sim_live.proofs.Asked.{look_counted, look_told, other_counted, other_told, step_counted, step_told}
-use Rattle.{sim_live.specs.Live.steps_with, sim_live.specs.declared.line.Line.Line, sim_plain_session.specs.Sessions.session}
-use Rattle.sim_session.{proofs.Keeping.kept, specs.SessionWords.seen_in, specs.Standing.StandsFor}
-use Rattle.std.proofs.Common.{arith, subst, sym}
 use Rattle.sim_live.proofs.answering.push_answer.Goals as goal
+use Rattle.sim_live.proofs.Asked.{look_counted, look_told, other_counted, other_told, step_counted, step_told}
+use Rattle.{sim_live.specs.Live.steps_with, sim_live.specs.declared.line.Line.Line, sim_plain_session.specs.Sessions.session, sim_session.proofs.Builds.kept}
+use Rattle.{sim_session.specs.Going.seen_in, sim_session.specs.Standing.StandsFor, std.proofs.Common.arith, std.proofs.Common.subst, std.proofs.Common.sym}
 
 pub returns-in_ok-push_ok-in-Step-clause-text : goal.returns-in_ok-push_ok-in-Step-clause-text
 returns-in_ok-push_ok-in-Step-clause-text g c = λ clients steps few counted stands.

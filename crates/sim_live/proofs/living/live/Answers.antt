@@ -1,9 +1,9 @@
 -- The talk is that over the match, and all rigs come back in their order, each system in its place.
-use Rattle.sim_live.proofs.Answered.{live_caused, live_settled, live_unmade}
-use Rattle.{sim_session.proofs.Keeping.came_back, sim_session.specs.Going.ComeBackBy, sim_talk.proofs.Talking.nothing_kept}
-use Rattle.std.proofs.Common.{Err, refl, subst, sym}
 use Rattle.sim_talk.specs.declared.fault.TalkFault.TheVariants as ends
 use Rattle.sim_live.proofs.living.live.Goals as goal
+use Rattle.sim_live.proofs.Answered.{live_caused, live_settled, live_unmade}
+use Rattle.std.proofs.Common.{refl, subst, sym}
+use Rattle.{sim_session.proofs.Builds.came_back, sim_session.specs.Going.ComeBackBy, sim_talk.proofs.Talking.nothing_kept, std.proofs.Common.Err}
 
 pub returns-in-Ok-clause-lives : goal.returns-in-Ok-clause-lives
 returns-in-Ok-clause-lives g c =

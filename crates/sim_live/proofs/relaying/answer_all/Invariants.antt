@@ -1,5 +1,5 @@
 -- Some lines were answered, and the server stands for all that has arrived.
-use Rattle.{sim_live.proofs.Relayed.HasAnswered, sim_server.specs.Small.IsSmallServer, sim_server.specs.Standing.server_of, std.proofs.Common.◌≤◌}
+use Rattle.{sim_live.proofs.Relayed.HasAnswered, sim_server.specs.Standing.IsSmallServer, sim_server.specs.Standing.server_of, std.proofs.Common.◌≤◌}
 
 abbrev pub invariant-loop-before : Rattle.sim_live.proofs.relaying.answer_all.Given.invariant-loop-before
 invariant-loop-before g l =

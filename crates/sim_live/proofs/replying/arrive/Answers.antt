@@ -1,5 +1,5 @@
 -- What is said where a connection ends has frames, and the server stays small.
-use Rattle.{sim_pipes.proofs.Answering.have_frames, sim_pipes.proofs.Answering.makes_small, sim_plain.specs.Messages.Cut, std.proofs.Common.rules}
+use Rattle.{sim_pipes.proofs.Telling.have_frames, sim_pipes.proofs.Telling.makes_small, sim_plain.specs.Messages.Cut, std.proofs.Common.rules}
 
 pub returns-in-Cut : Rattle.sim_live.proofs.replying.arrive.Goals.returns-in-Cut
 returns-in-Cut c =

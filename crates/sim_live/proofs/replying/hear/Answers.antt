@@ -1,6 +1,6 @@
 -- What arrives in bytes is small, so what is said has frames and the server stays small.
-use Rattle.sim_pipes.proofs.Answering.{have_frames, hears_small, makes_rules, raw_is_small}
-use Rattle.{sim_wire.proofs.Fronts.are_bytes, sim_wire.specs.Heard.raw, std.proofs.Common.rules}
+use Rattle.sim_pipes.proofs.Telling.{have_frames, hears_small, makes_rules, raw_is_small}
+use Rattle.{sim_wire.proofs.Fronts.are_bytes, sim_wire.specs.Memory.raw, std.proofs.Common.rules}
 
 pub returns : Rattle.sim_live.proofs.replying.hear.Goals.returns
 returns c =

@@ -1,6 +1,6 @@
-use Rattle.sim_merge.proofs.Common.{◌≡◌, false, Some, ap, arith, below_more, chain_fault, chain_refusal, IfRefusal, is_endless, members, rules, sym, ◌∙◌}
-use Rattle.sim_merge.proofs.ResolutionLemmas.{chain_refusal-at, chain_refusal-none, IfRefusal-from}
 use Rattle.sim_merge.proofs.chains.check_chains.Goals as goal
+use Rattle.sim_merge.proofs.Common.{ap, arith, below_more, chain_fault, chain_refusal, false, IfRefusal, is_endless, members, rules, Some, sym, ◌∙◌, ◌≡◌}
+use Rattle.sim_merge.proofs.KeepingLemmas.{chain_refusal-at, chain_refusal-none, IfRefusal-from}
 
 pub returns-in_err-check_chain-clause-refused : goal.returns-in_err-check_chain-clause-refused
 returns-in_err-check_chain-clause-refused c =

@@ -1,15 +1,14 @@
-use Rattle.sim_merge.proofs.Common.{◌≡◌, ◌+◌, ◌-◌, [], ◌∷◌, ◌++◌, get_or, Some, None, ap, append_assoc, arith, chain_from, members, sym, ◌∙◌}
-use Rattle.sim_merge.proofs.ResolutionLemmas.{chain_from-next}
-use Rattle.sim_merge.proofs.chains.put_members.Goals as goal
+use Rattle.sim_merge.proofs.Common.{[], ap, append_assoc, arith, chain_from, get_or, members, None, Some, sym, ◌++◌, ◌+◌, ◌-◌, ◌∙◌, ◌∷◌, ◌≡◌}
+use Rattle.sim_merge.proofs.KeepingLemmas.{chain_from-next}
 
-pub loop-seen-init : goal.loop-seen-init
+pub loop-seen-init : Rattle.sim_merge.proofs.chains.put_members.Goals.loop-seen-init
 unfolding members
 loop-seen-init c = record {
   chain = ap (λ xs. xs ++ chain_from c.args.parents.now 17 (Some c.args.number)) c.clear.ensures.items;
   within = λ member e. let same : c.args.number ≡ member = cc in omega (arith, c.requires.number);
 }
 
-pub loop-seen-preserved : goal.loop-seen-preserved
+pub loop-seen-preserved : Rattle.sim_merge.proofs.chains.put_members.Goals.loop-seen-preserved
 loop-seen-preserved c =
     let parents = c.args.parents.now in
     let chain = c.loop-seen.chain.items in

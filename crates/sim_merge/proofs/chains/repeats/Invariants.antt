@@ -1,8 +1,7 @@
 use Rattle.sim_merge.proofs.Common.{◌≡◌, length, repeats}
-use Rattle.sim_merge.proofs.chains.repeats.Given as goal
 
-abbrev pub invariant-loop-rest : goal.invariant-loop-rest
+abbrev pub invariant-loop-rest : Rattle.sim_merge.proofs.chains.repeats.Given.invariant-loop-rest
 invariant-loop-rest l = repeats l.rest ≡ repeats l.chain
 
-abbrev pub decreases-loop-rest : goal.decreases-loop-rest
+abbrev pub decreases-loop-rest : Rattle.sim_merge.proofs.chains.repeats.Given.decreases-loop-rest
 decreases-loop-rest l = length l.rest

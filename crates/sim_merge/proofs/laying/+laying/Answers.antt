@@ -1,8 +1,7 @@
-use Rattle.sim_merge.proofs.Common.{laying_of, lower_children, node_if, node_of, nodes_of, out-Child, refused, rules, subst, sym, with_lower, ◌∙◌}
-use Rattle.sim_merge.proofs.Common.{◌≡◌, ℕ, ◌+◌, List, drop, None, refl, ap, behind, child_named, IfBadOp, IsPast, laid, laid_under, laid_unmarked}
-use Rattle.sim_merge.proofs.LayingLemmas.{IfBadOp-weaker, merged-step, refused-step, unmarked-refused, unmarked-there}
-use Rattle.sim_merge.proofs.NodeLemmas.{nodes_of-child}
 use Rattle.sim_merge.proofs.laying.+laying.Goals as goal
+use Rattle.sim_merge.proofs.ChildrenLemmas.{IfBadOp-weaker, merged-step, nodes_of-child, refused-step, unmarked-refused, unmarked-there}
+use Rattle.sim_merge.proofs.Common.{ap, behind, child_named, drop, IfBadOp, IsPast, laid, laid_under, laid_unmarked, laying_of, List, lower_children, node_if}
+use Rattle.sim_merge.proofs.Common.{node_of, nodes_of, None, out-Child, refl, refused, rules, subst, sym, with_lower, ℕ, ◌+◌, ◌∙◌, ◌≡◌}
 
 pub merged-loop-child-preserved : goal.merged-loop-child-preserved
 merged-loop-child-preserved t c =

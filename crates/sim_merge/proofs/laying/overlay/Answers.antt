@@ -1,7 +1,7 @@
-use Rattle.sim_merge.proofs.{Common.Some, Common.IfBadOp, Common.IsRefused, Common.laid, Common.node_of, Common.rules, Common.◌∙◌, LayingLemmas.IfBadOp-weaker}
-use Rattle.sim_merge.proofs.RefusalLemmas.{has-laid, is-refused}
-use Rattle.sim_merge.proofs.ResolvedLemmas.{laid-resolved, laid-unmarked, mark_of-layable, there-resolved}
 use Rattle.sim_merge.proofs.laying.overlay.Goals as goal
+use Rattle.sim_merge.proofs.RefusalLemmas.{has-laid, is-refused}
+use Rattle.sim_merge.proofs.{ChildrenLemmas.IfBadOp-weaker, Common.IfBadOp, Common.IsRefused, Common.Some, Common.laid, Common.node_of, Common.rules}
+use Rattle.sim_merge.proofs.{Common.◌∙◌, FitLemmas.laid-resolved, FitLemmas.laid-unmarked, FitLemmas.mark_of-layable, FitLemmas.there-resolved}
 
 pub returns-clause-resolved : goal.returns-clause-resolved
 returns-clause-resolved c =

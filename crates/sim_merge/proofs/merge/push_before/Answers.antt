@@ -1,8 +1,7 @@
-use Rattle.sim_merge.proofs.ChildrenLemmas.{followed_by-assoc}
-use Rattle.sim_merge.proofs.Common.{followed_by, IsPast, length-drop, named_of, no_children, nodes_of, subst, sym, take_all, ◌∙◌}
-use Rattle.sim_merge.proofs.Common.{◌≡◌, ◌+◌, ◌-◌, List, [], length, take, drop, refl, ap, arith, before, behind, Child, child, child_named, drop_all}
-use Rattle.sim_merge.proofs.NodeLemmas.{are_sound-drop, before-at, before-at-stop, behind-at, child_named-at, past}
 use Rattle.sim_merge.proofs.merge.push_before.Goals as goal
+use Rattle.sim_merge.proofs.ChildrenLemmas.{are_sound-drop, before-at, before-at-stop, behind-at, child_named-at, followed_by-assoc, past}
+use Rattle.sim_merge.proofs.Common.{[], ap, arith, before, behind, Child, child, child_named, drop, drop_all, followed_by, IsPast, length, length-drop, List}
+use Rattle.sim_merge.proofs.Common.{named_of, no_children, nodes_of, refl, subst, sym, take, take_all, ◌+◌, ◌-◌, ◌∙◌, ◌≡◌}
 
 pub loop-i-preserved : goal.loop-i-preserved
 loop-i-preserved c =

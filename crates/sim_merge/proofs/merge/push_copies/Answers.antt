@@ -1,8 +1,7 @@
-use Rattle.sim_merge.proofs.{ChildrenLemmas.followed_by-assoc, ChildrenLemmas.followed_by-end, NodeLemmas.nodes_of-at}
-use Rattle.sim_merge.proofs.Common.{◌≡◌, ◌+◌, [], drop, ap, child, drop_all, followed_by, named_of, no_children, nodes_of, sym, ◌∙◌}
-use Rattle.sim_merge.proofs.merge.push_copies.Goals as goal
+use Rattle.sim_merge.proofs.ChildrenLemmas.{followed_by-assoc, followed_by-end, nodes_of-at}
+use Rattle.sim_merge.proofs.Common.{[], ap, child, drop, drop_all, followed_by, named_of, no_children, nodes_of, sym, ◌+◌, ◌∙◌, ◌≡◌}
 
-pub loop-child-preserved : goal.loop-child-preserved
+pub loop-child-preserved : Rattle.sim_merge.proofs.merge.push_copies.Goals.loop-child-preserved
 loop-child-preserved c =
     let xs = c.args.children.now in
     let x = c.child-item.result in
@@ -13,7 +12,7 @@ loop-child-preserved c =
     ∙ ap (followed_by out) (sym (nodes_of-at xs i x c.loop-child-test.true c.child-item.is))
     ∙ c.loop-child.invariant
 
-pub returns : goal.returns
+pub returns : Rattle.sim_merge.proofs.merge.push_copies.Goals.returns
 returns c =
     let out = nodes_of c.loop-child.out.items in
     let none : drop c.loop-child.child-index c.args.children.now ≡ [] = drop_all c.loop-child.child-index c.args.children.now c.loop-child-test.false in

@@ -1,8 +1,7 @@
 use Rattle.sim_merge.proofs.Common.{◌+ℤ◌, ap, function_of, number_by, product, sym, ◌∙◌}
 use Rattle.sim_merge.proofs.OperationLemmas.{in_range-SomeIff, number_by-some}
-use Rattle.sim_merge.proofs.operation.number_of.Goals as goal
 
-pub returns-in-Sum : goal.returns-in-Sum
+pub returns-in-Sum : Rattle.sim_merge.proofs.operation.number_of.Goals.returns-in-Sum
 returns-in-Sum c =
     let lower = c.args.lower.now in
     let upper = c.args.upper.now in
@@ -10,7 +9,7 @@ returns-in-Sum c =
     ∙ number_by-some (λ x y. x +ℤ y) lower upper c.in_ok-lower.lower c.in_ok-upper.upper c.in_ok-lower.ensures c.in_ok-upper.ensures
     ∙ ap (λ operation. number_by (function_of operation) lower upper) (sym c.in-Sum.is)
 
-pub returns-in-Product : goal.returns-in-Product
+pub returns-in-Product : Rattle.sim_merge.proofs.operation.number_of.Goals.returns-in-Product
 returns-in-Product c =
     let lower = c.args.lower.now in
     let upper = c.args.upper.now in

@@ -1,14 +1,13 @@
 use Rattle.sim_merge.proofs.Common.{◌≡◌, false, not, ◌&&◌, bytes_eq, ap, contains_text, list_any, sym, ◌∙◌}
 use Rattle.sim_merge.proofs.LackingLemmas.{lacking_put, lacking_rest}
-use Rattle.sim_merge.proofs.words.include.Goals as goal
 
-pub returns-else-take_word-clause-found : goal.returns-else-take_word-clause-found
+pub returns-else-take_word-clause-found : Rattle.sim_merge.proofs.words.include.Goals.returns-else-take_word-clause-found
 returns-else-take_word-clause-found c = λ more tells.
     let absent : contains_text c.args.lacking.now c.args.word ≡ false =
     ap (contains_text c.args.lacking.now) (sym c.as_str.ensures) ∙ sym c.take_word.ensures.found ∙ c.if-take_word.false in
     lacking_put (contains_text c.args.lacking.now) c.args.word false more c.args.found.now absent tells
 
-pub returns-else-take_word-clause-lacking : goal.returns-else-take_word-clause-lacking
+pub returns-else-take_word-clause-lacking : Rattle.sim_merge.proofs.words.include.Goals.returns-else-take_word-clause-lacking
 returns-else-take_word-clause-lacking c = λ more tells other.
     let test = contains_text c.args.lacking.now in
     let word = c.args.word in

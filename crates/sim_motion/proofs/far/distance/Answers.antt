@@ -1,4 +1,4 @@
-use Rattle.{sim_base.proofs.RootLemmas.root_is, sim_base.specs.Numbers.root, std.proofs.Common.ap, std.proofs.Common.sym, std.proofs.Common.◌∙◌}
+use Rattle.{sim_base.proofs.RootLemmas.root_is, sim_base.specs.Places.root, std.proofs.Common.ap, std.proofs.Common.sym, std.proofs.Common.◌∙◌}
 
 pub returns-then-is_root : Rattle.sim_motion.proofs.far.distance.Goals.returns-then-is_root
 returns-then-is_root c =

@@ -1,4 +1,4 @@
-use Rattle.{sim_base.specs.Move.moved, sim_plans.proofs.Answered.answered, sim_plans.proofs.MovePlan.move_plan_is, sim_plans.specs.Plans.move_plan}
+use Rattle.{sim_base.specs.Turn.moved, sim_plans.proofs.Answered.answered, sim_plans.proofs.MovePlan.move_plan_is, sim_plans.specs.Plans.move_plan}
 
 pub returns : Rattle.sim_motion.proofs.phase.motion_changes.Goals.returns
 returns g c =

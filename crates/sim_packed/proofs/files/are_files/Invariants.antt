@@ -1,9 +1,8 @@
 -- The files so far are read.
 use Rattle.{sim_packed.proofs.Unpacking.IsReadTo, std.proofs.Common.length}
-use Rattle.sim_packed.proofs.files.are_files.Given as goal
 
-abbrev pub invariant-loop-left : goal.invariant-loop-left
+abbrev pub invariant-loop-left : Rattle.sim_packed.proofs.files.are_files.Given.invariant-loop-left
 invariant-loop-left l = IsReadTo l.fn.bytes l.left
 
-abbrev pub decreases-loop-left : goal.decreases-loop-left
+abbrev pub decreases-loop-left : Rattle.sim_packed.proofs.files.are_files.Given.decreases-loop-left
 decreases-loop-left l = length l.left

@@ -1,8 +1,7 @@
 -- Bytes are a text where they are UTF-8.
-use Rattle.std.{proofs.lemmas.Str.is_utf8-from_IsUtf8, proofs.lemmas.Str.IsUtf8-from_is_utf8, specs.Str.IsUtf8, specs.Str.is_utf8}
-use Rattle.std.proofs.Common.{◌≡◌, ℕ, Bool, true, false, if◌then◌else◌, List, Some, None, refl}
-use Rattle.sim_packed.specs.Words.{text_in}
-use Rattle.sim_packed.proofs.words.text_of.Goals as goal
+use Rattle.sim_packed.specs.Files.{text_in}
+use Rattle.std.proofs.Common.{Bool, false, if◌then◌else◌, List, None, refl, Some, true, ℕ, ◌≡◌}
+use Rattle.std.{proofs.lemmas.Str.IsUtf8-from_is_utf8, proofs.lemmas.Str.is_utf8-from_IsUtf8, specs.Str.IsUtf8, specs.Str.is_utf8}
 
 text_is : (text bytes : List ℕ) → text ≡ bytes → IsUtf8 bytes → Some text ≡ text_in bytes
 text_is text bytes same utf8 = rw (same, is_utf8-from_IsUtf8 bytes utf8) refl
@@ -14,8 +13,8 @@ no_text bytes refused = by (is_utf8 bytes) refl
     by true e = absurd (refused (IsUtf8-from_is_utf8 bytes e))
     by false e = refl
 
-pub returns-in-Ok : goal.returns-in-Ok
+pub returns-in-Ok : Rattle.sim_packed.proofs.words.text_of.Goals.returns-in-Ok
 returns-in-Ok c = text_is c.in-Ok.text.now c.args.bytes.now c.in-Ok.ensures.cases.0 c.in-Ok.ensures.cases.1
 
-pub returns-in-Err : goal.returns-in-Err
+pub returns-in-Err : Rattle.sim_packed.proofs.words.text_of.Goals.returns-in-Err
 returns-in-Err c = no_text c.args.bytes.now c.in-Err.ensures.cases.0

@@ -16,7 +16,7 @@ returns-in-Some c =
     let away = away-by_bit at.cell front.aim.goal c.away_from-away.result which c.loop-which-test.true c.away_from-away.ensures set in (
       which,
       c.loop-which-test.true,
-      near-unknown field start front c.requires.front at.cell c.requires.at_on c.requires.free c.requires.unknown from which
+      near-unknown field start front c.requires.known.floor_holds at.cell c.requires.known.at_on c.requires.known.free c.requires.unknown from which
           near.leads away (omega (arith, near.far, c.requires.cost)),
       λ j p lt t tight. c.loop-which.invariant j p lt t,
     )
@@ -34,11 +34,13 @@ loop-which-preserved c =
     (elim c.if-away-which-eq1.branch [
       | then-away-which-eq1+in_default w ↦
           λ p t.
-          let (away, near) = unknown-near field start front c.requires.front at.cell c.requires.at_on c.requires.free c.requires.unknown p which t in
+          let (away, near) = unknown-near field start front c.requires.known.floor_holds at.cell c.requires.known.at_on c.requires.known.free
+          c.requires.unknown p which t in
           w.near_step.ensures.none w.in_default.is p (record { leads = t.leads; far = omega (arith, near, c.requires.cost) })
       | else-away-which-eq1 w ↦
           λ p t.
-          let (away, near) = unknown-near field start front c.requires.front at.cell c.requires.at_on c.requires.free c.requires.unknown p which t in
+          let (away, near) = unknown-near field start front c.requires.known.floor_holds at.cell c.requires.known.at_on c.requires.known.free
+          c.requires.unknown p which t in
           absurd (w.if-away-which-eq1.false (shr_and_one mask which ∙ bit-by_away at.cell front.aim.goal mask which c.loop-which-test.true
           c.away_from-away.ensures away))
     ]) in

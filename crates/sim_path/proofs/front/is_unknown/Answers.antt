@@ -1,6 +1,5 @@
 use Rattle.sim_path.proofs.{Common.true≢false, Common.◌∙◌, front.is_unknown.Goals.else-is_none, front.is_unknown.Goals.then-is_none}
 use Rattle.sim_path.proofs.Common.{◌≡◌, ℕ, ◌≤◌, Bool, true, false, not, leb, is_some, Some, None, Option, refl, arith, false≢true, le-leb, leb-true, sym}
-use Rattle.sim_path.proofs.front.is_unknown.Goals as goal
 
 none_by : (o : Option ℕ) (b : Bool) → is_some o ≡ not b → b ≡ true → o ≡ None
 none_by None b e t = refl
@@ -18,7 +17,7 @@ low_by a b e f t = omega (arith, leb-true a b t)
 by_low : (a b : ℕ) {x y : ℕ} → a ≡ x → b ≡ y → x ≤ y → leb a b ≡ true
 by_low a b e f le = le-leb a b (omega arith)
 
-pub returns-then-octile-left : goal.returns-then-octile-left
+pub returns-then-octile-left : Rattle.sim_path.proofs.front.is_unknown.Goals.returns-then-octile-left
 returns-then-octile-left c = (
   λ t. elim c.if-is_none.branch [
     | then-is_none w ↦
@@ -32,7 +31,7 @@ returns-then-octile-left c = (
   λ u. by_low c.args.front.now.aim.near c.octile-then-octile-left.result refl c.octile-then-octile-left.ensures.is u.beyond,
 )
 
-pub returns-else-octile-left : goal.returns-else-octile-left
+pub returns-else-octile-left : Rattle.sim_path.proofs.front.is_unknown.Goals.returns-else-octile-left
 returns-else-octile-left c = (
   λ t. absurd (true≢false (sym t ∙ c.if-octile-left.false)),
   λ u. elim c.if-is_none.branch [

@@ -1,6 +1,6 @@
-use Rattle.sim_path.proofs.Common.{[], ◌++◌, ◌∙◌, ◌∷◌, ap, Cell, Contains, Contains-append_left, Contains-push, field_of_grid, List, subst, sym}
-use Rattle.{sim_path.proofs.LiveMarks.live-first, sim_path.proofs.LiveMarks.live-more, sim_path.specs.Live.AreLiveBut, sim_search.specs.Distances.number_in}
 use Rattle.sim_path.proofs.live.mark_all.Goals as goal
+use Rattle.sim_path.proofs.Common.{[], ap, Cell, Contains, Contains-append_left, Contains-push, field_of_grid, List, subst, sym, ◌++◌, ◌∙◌, ◌∷◌}
+use Rattle.{sim_path.proofs.AwaySteps.live-first, sim_path.proofs.AwaySteps.live-more, sim_path.specs.Questions.AreLiveBut, sim_search.specs.Rows.number_in}
 
 pub loop-init : goal.loop-init
 loop-init c =

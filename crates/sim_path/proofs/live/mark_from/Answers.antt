@@ -1,7 +1,7 @@
-use Rattle.sim_path.proofs.Common.{◌≡◌, Cell, field_of_grid, IsOnGround, marked_in, Size, subst, sym, true}
-use Rattle.sim_path.proofs.{LiveMarks.spread-more, LiveMarks.spread-past, live.mark_from.Goals.in-Some+in_ok-mark, live.mark_from.Goals.in_default}
-use Rattle.{sim_path.specs.Live.IsSpread, sim_search.specs.Distances.number_in}
 use Rattle.sim_path.proofs.live.mark_from.Goals as goal
+use Rattle.sim_path.proofs.{AwaySteps.spread-more, AwaySteps.spread-past, Common.Cell, Common.IsOnGround, Common.Size, Common.field_of_grid, Common.marked_in}
+use Rattle.sim_path.proofs.{Common.subst, Common.sym, Common.true, Common.◌≡◌, live.mark_from.Goals.in-Some+in_ok-mark, live.mark_from.Goals.in_default}
+use Rattle.{sim_path.specs.Questions.IsSpread, sim_search.specs.Rows.number_in}
 
 pub mark-requires-clause-on : goal.mark-requires-clause-on
 mark-requires-clause-on c = λ v h. subst (λ (s : Size). IsOnGround s v) (sym c.loop-which.invariant.spread.size_is) (c.loop-which.invariant.spread.on v h)
@@ -27,6 +27,14 @@ loop-which-preserved c =
           (c.falling_step.ensures.none w.in_default.is))
     ]
 
-pub falling_step-requires-clause-at : goal.falling_step-requires-clause-at
-falling_step-requires-clause-at c =
-    record { spot = record { on = c.requires.cell.cell_on; place_is = c.place-place.ensures }; moves = c.moves_from.ensures; cost_is = c.estimate.ensures.is }
+pub falling_step-requires : goal.falling_step-requires
+falling_step-requires c = record {
+  which_in = c.loop-which-test.true;
+  stands = record {
+    spot = record { on = c.requires.cell.cell_on; place_is = c.place-place.ensures };
+    moves = c.moves_from.ensures;
+    cost_is =
+        c.estimate.ensures.is;
+  };
+  size = c.requires.cell.size;
+}

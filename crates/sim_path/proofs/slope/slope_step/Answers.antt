@@ -1,7 +1,7 @@
-use Rattle.sim_path.proofs.Common.{◌+◌, ◌-◌, ◌∙◌, ◌≡◌, ◌≤◌, ap, ap₂, arith, Cell, false, field_of_grid, IsTightStep, marked_in, octile, Option, same_Some, Some}
-use Rattle.sim_path.proofs.Common.{SomeIff, subst, sym, true, true≢false, ℕ, ⊎_elim}
-use Rattle.{sim_path.proofs.FloorLaws.octile-far, sim_path.specs.Floors.slope_of, std.proofs.lemmas.Bool.cases_Bool}
 use Rattle.sim_path.proofs.slope.slope_step.Goals as goal
+use Rattle.sim_path.proofs.Common.{ap, ap₂, arith, Cell, false, field_of_grid, IsTightStep, marked_in, octile, Option, same_Some, Some, SomeIff, subst, sym}
+use Rattle.sim_path.proofs.Common.{true, true≢false, ℕ, ⊎_elim, ◌+◌, ◌-◌, ◌∙◌, ◌≡◌, ◌≤◌}
+use Rattle.{sim_path.proofs.FloorLaws.octile-far, sim_path.specs.Questions.slope_of, std.proofs.lemmas.Bool.cases_Bool}
 
 -- what is left of a cost for the step is the floor
 exact : (cost step to floor n all : ℕ) → SomeIff (Some cost) (step ≤ to) (to - step) → step ≡ n → to ≡ all → floor + n ≡ all → floor ≡ cost

@@ -1,6 +1,6 @@
-use Rattle.sim_path.proofs.{BestOf.best_of-more, BestOf.best_of-none, Common.take_more}
-use Rattle.sim_path.proofs.Common.{◌≡◌, ◌+◌, List, [], ◌∷◌, ◌++◌, get_or, take, Some, ap, Cell, floor_cost, IsBestOf, Reached, subst, sym, take_all}
 use Rattle.sim_path.proofs.tight.tight_end.Goals as goal
+use Rattle.sim_path.proofs.Common.{[], ap, Cell, floor_cost, get_or, IsBestOf, List, Reached, Some, subst, sym, take, take_all, take_more, ◌++◌, ◌+◌, ◌∷◌, ◌≡◌}
+use Rattle.sim_path.proofs.TightTrails.{best_of-more, best_of-none}
 
 pub loop-cell-init : goal.loop-cell-init
 loop-cell-init g c = best_of-none (floor_cost (g.F.Floor.floor_of c.args.floor c.args.question.now.start)) c.args.question.now.goal

@@ -1,6 +1,6 @@
-use Rattle.sim_path.proofs.{Found.if_ok, TightTrails.tight-end}
-use Rattle.sim_path.proofs.Common.{◌≡◌, Bool, true, Option, refl, field_of_grid, floor_cost, IsBestOf, IsTightTrail, IsTrailToEnd, Reached, subst}
 use Rattle.sim_path.proofs.tight.tight_to.Goals as goal
+use Rattle.sim_path.proofs.Common.{Bool, IsBestOf, IsTightTrail, IsTrailToEnd, Option, Reached, field_of_grid, floor_cost, refl, subst, true, ◌≡◌}
+use Rattle.sim_path.proofs.{Ends.if_ok, TightTrails.tight-end}
 
 pub returns-in-Some : goal.returns-in-Some
 returns-in-Some g c =
@@ -18,8 +18,8 @@ returns-in-Some g c =
     let h = found e in
     record {
       end = record { cell = end.cell; cost = floor end.cell };
-      is_end = tight-end field start floor question.start_on (g.met.F.Floor.is_least field start c.args.floor c.requires.floor) goal question.near
-          question.ends.now end c.requires.ends best.0 best.1 h.tight;
+      is_end = tight-end field start floor question.start_on (g.met.F.Floor.is_least field start c.args.floor c.requires.known.floor_holds) goal question.near
+          question.ends.now end c.requires.known.ends best.0 best.1 h.tight;
       is_trail = h.is_trail;
     })
     c.tight_trail.ensures
@@ -31,4 +31,4 @@ pub tight_trail-requires-clause-dead : goal.tight_trail-requires-clause-dead
 tight_trail-requires-clause-dead g c = c.requires.dead
 
 pub tight_trail-requires-clause-floor : goal.tight_trail-requires-clause-floor
-tight_trail-requires-clause-floor g c = c.requires.floor
+tight_trail-requires-clause-floor g c = c.requires.known.floor_holds

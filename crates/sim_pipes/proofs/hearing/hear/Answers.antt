@@ -1,9 +1,9 @@
 -- The posts are what the server says to each client, and the sender is told of the notice. Bytes that are no frame cut the
 -- client off, and what is said of that goes to clients and has frames as well.
-use Rattle.{sim_pipes.proofs.Common.◌∙◌, sim_pipes.proofs.Noticing.sender_is_noticed, sim_wire.proofs.Fronts.are_bytes}
-use Rattle.sim_pipes.proofs.Answering.{have_frames, hears_small, makes_rules, raw_is_small, sends, to_clients}
-use Rattle.sim_pipes.proofs.Common.{ℕ, ◌<◌, List, ◌++◌, Ok, All, filter_map, ap, Heard, notice_events, notice_in, PostOf, raw, server_of, subst, sym, told_to}
 use Rattle.sim_pipes.proofs.hearing.hear.Goals as goal
+use Rattle.sim_pipes.proofs.Common.{All, ap, filter_map, Heard, List, notice_events, notice_in, Ok, PostOf, raw, server_of, subst, sym, told_to, ℕ, ◌++◌, ◌<◌}
+use Rattle.sim_pipes.proofs.Telling.{have_frames, hears_small, makes_rules, raw_is_small, sender_is_noticed, sends, to_clients}
+use Rattle.{sim_pipes.proofs.Common.◌∙◌, sim_wire.proofs.Fronts.are_bytes}
 
 pub returns-in_err-posts-clause-rules : goal.returns-in_err-posts-clause-rules
 returns-in_err-posts-clause-rules c = makes_rules c.args.server.now (raw c.args.client c.args.frame.now) c.hear_frame.result c.hear_frame.new.self

@@ -1,5 +1,5 @@
 -- The clauses are the lemmas of these names.
-use Rattle.sim_pipes.proofs.{Common.posts, Noticing.sender_is_noticed, Telling.clients_are_told, Telling.told_each}
+use Rattle.sim_pipes.proofs.{Common.posts, Telling.clients_are_told, Telling.sender_is_noticed, Telling.told_each}
 
 pub returns : Rattle.sim_pipes.proofs.laws.posts_reach_their_clients.Goals.returns
 returns g c = record {

@@ -1,12 +1,11 @@
 -- One post more is looked at.
-use Rattle.sim_pipes.proofs.Common.{[], ◌∷◌, ◌++◌, length, take, filter_map, ap, append_assoc, arith, notice_events, notice_in, sym, told_to, ◌∙◌}
-use Rattle.sim_pipes.proofs.Noticing.{notices_more}
-use Rattle.sim_pipes.proofs.notice.push_notices.Goals as goal
+use Rattle.sim_pipes.proofs.Common.{[], ap, append_assoc, arith, filter_map, length, notice_events, notice_in, sym, take, told_to, ◌++◌, ◌∙◌, ◌∷◌}
+use Rattle.sim_pipes.proofs.Telling.{notices_more}
 
-pub returns-in_err-push_notice-clause-none : goal.returns-in_err-push_notice-clause-none
+pub returns-in_err-push_notice-clause-none : Rattle.sim_pipes.proofs.notice.push_notices.Goals.returns-in_err-push_notice-clause-none
 returns-in_err-push_notice-clause-none c = λ none. absurd (omega (arith, c.loop-post-test.true, ap length (c.as_slice-post-items.ensures ∙ none)))
 
-pub loop-post-preserved : goal.loop-post-preserved
+pub loop-post-preserved : Rattle.sim_pipes.proofs.notice.push_notices.Goals.loop-post-preserved
 loop-post-preserved c =
     let all = c.as_slice-post-items.result.now in
     let i = c.loop-post.post-index in

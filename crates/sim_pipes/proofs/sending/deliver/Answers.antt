@@ -1,12 +1,11 @@
 -- One post more is sent.
 use Rattle.sim_pipes.proofs.{Frames.sent_more, Telling.told_more}
 use Rattle.sim_pipes.proofs.Common.{[], ◌∷◌, ◌++◌, length, take, ap, append_assoc, AreFrames, arith, IsDownFrame, pipe_in, subst, sym, told_to, ◌∙◌}
-use Rattle.sim_pipes.proofs.sending.deliver.Goals as goal
 
-pub returns-in_err-send_down_to-clause-none : goal.returns-in_err-send_down_to-clause-none
+pub returns-in_err-send_down_to-clause-none : Rattle.sim_pipes.proofs.sending.deliver.Goals.returns-in_err-send_down_to-clause-none
 returns-in_err-send_down_to-clause-none c = λ none. absurd (omega (arith, c.loop-post-test.true, ap length (c.as_slice-post-items.ensures ∙ none)))
 
-pub loop-post-preserved : goal.loop-post-preserved
+pub loop-post-preserved : Rattle.sim_pipes.proofs.sending.deliver.Goals.loop-post-preserved
 loop-post-preserved c =
     let all = c.as_slice-post-items.result.now in
     let i = c.loop-post.post-index in

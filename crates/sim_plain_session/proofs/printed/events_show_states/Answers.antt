@@ -1,4 +1,4 @@
-use Rattle.sim_plain_session.proofs.Shown.{events_are_shown, starts_are_shown}
+use Rattle.sim_plain_session.proofs.Enabling.{events_are_shown, starts_are_shown}
 
 pub returns : Rattle.sim_plain_session.proofs.printed.events_show_states.Goals.returns
 returns c =

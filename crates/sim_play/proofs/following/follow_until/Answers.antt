@@ -1,8 +1,8 @@
 -- One turn more is played, and followed.
-use Rattle.{sim_board.proofs.Keeping.kept_on, sim_play.proofs.Later.followed_more, sim_play.proofs.Playing.next_number, sim_play.proofs.Playing.one_turn_more}
-use Rattle.sim_play.proofs.Common.{◌≡◌, ℕ, suc, ◌+◌, ◌-◌, refl, ap, arith, from, IsValid}
-use Rattle.sim_play.proofs.Common.{later_of, own_turns, rules, Setup, State, subst, sym, vision_after, vision_next, ◌∙◌}
 use Rattle.sim_play.proofs.following.follow_until.Goals as goal
+use Rattle.sim_board.proofs.Keeping.{kept_on}
+use Rattle.sim_play.proofs.Common.{ap, arith, from, IsValid, later_of, own_turns, refl, rules, Setup, State, subst, suc, sym, vision_after, vision_next, ℕ, ◌+◌}
+use Rattle.sim_play.proofs.{Common.◌-◌, Common.◌∙◌, Common.◌≡◌, Past.followed_more, Playing.next_number, Playing.one_turn_more}
 
 pub loop-number-init : goal.loop-number-init
 loop-number-init g c =
@@ -16,9 +16,9 @@ loop-number-init g c =
       turn = sym same;
       followed = ap (λ (k : ℕ). vision_after c.args.sight.now (later_of setup start k)) (sym none);
       follows = c.requires.same;
-      valid = c.requires.goes_on.valid;
+      valid = c.requires.may.valid;
       same = refl;
-      whole = c.requires.goes_on.whole;
+      whole = c.requires.may.whole;
       kept = search rules;
     }
 

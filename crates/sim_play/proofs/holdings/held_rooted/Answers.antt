@@ -2,7 +2,6 @@
 use Rattle.std.proofs.Common.{◌≡◌, ℕ, ◌+◌, ◌<◌, ◌≤◌, Bool, true, false, ◌==◌, ◌&&◌, List, get_or, length, take, refl, ap, arith, sym, ◌∙◌}
 use Rattle.std.proofs.lemmas.{List.take_all, List.Sums.sum_by_more, Slice.Zip.get_or-zip, Slice.Zip.length-zip}
 use Rattle.std.specs.Prelude.{count_by, if◌then◌else◌, zip}
-use Rattle.sim_play.proofs.holdings.held_rooted.Goals as goal
 use Rattle.sim_play.proofs.holdings.held_rooted.Goals.{then-rooted-cell, else-rooted-cell}
 
 -- a cell counts by its holder where it is rooted, and else not
@@ -26,7 +25,7 @@ module _ (holders : List ℕ) (rooted : List Bool) (player : ℕ) where
       (omega (arith, length-zip holders rooted))
       ∙ ap (λ (cell : ℕ × Bool). counted at + (if cell.0 == player && cell.1 then 1 else 0)) (get_or-zip holders rooted at (0, false) held flagged)
 
-pub loop-cell-preserved : goal.loop-cell-preserved
+pub loop-cell-preserved : Rattle.sim_play.proofs.holdings.held_rooted.Goals.loop-cell-preserved
 loop-cell-preserved c = λ player few.
     let holders = c.args.holders.now in
     let rooted = c.args.rooted.now in
@@ -48,7 +47,7 @@ loop-cell-preserved c = λ player few.
           ∙ sym (more ∙ ap (λ (n : ℕ). counted holders rooted player at + n) (if_not _ _ w.if-rooted-cell.false))
     ]
 
-pub returns : goal.returns
+pub returns : Rattle.sim_play.proofs.holdings.held_rooted.Goals.returns
 returns c = λ player few.
     let cells = zip c.args.holders.now c.args.rooted.now in
     let long = length-zip c.args.holders.now c.args.rooted.now in

@@ -1,5 +1,5 @@
 -- The turns are those of the match, each by its players.
-use Rattle.sim_play.proofs.Common.{◌∙◌, All, ap, AreFed, arith, IsOrderOf, length, OnOk, State, state_after, subst, sym, systems_by}
+use Rattle.sim_play.proofs.Common.{◌∙◌, All, ap, arith, IsOrderOf, length, State, state_after, subst, sym}
 use Rattle.sim_play.{proofs.LogTurns.match_length, proofs.LogTurns.match_players, proofs.LogTurns.match_state, specs.Playing.HasPlayedBy}
 use Rattle.sim_play.proofs.logs.match_log.Goals as goal
 

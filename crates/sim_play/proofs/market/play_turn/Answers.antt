@@ -1,9 +1,8 @@
 -- The commands are those of the match's own turn.
 use Rattle.{sim_play.proofs.Common.◌∙◌, sim_turn.proofs.Counting.players_at}
 use Rattle.sim_play.proofs.Common.{◌≡◌, ℕ, List, OnOk, All, ap, books_of, IsOrderOf, orders_at, paid_turn, PlayerCommand, Setup, setup_in, state_in, subst, sym}
-use Rattle.sim_play.proofs.market.play_turn.Goals as goal
 
-pub paid_turn-requires : goal.paid_turn-requires
+pub paid_turn-requires : Rattle.sim_play.proofs.market.play_turn.Goals.paid_turn-requires
 paid_turn-requires g c =
     let setup = setup_in c.args.board.now in
     let orders : c.deref.result.now ≡ orders_at c.args.number setup.commands =
@@ -20,7 +19,7 @@ paid_turn-requires g c =
       total = c.requires.total;
     }
 
-pub returns : goal.returns
+pub returns : Rattle.sim_play.proofs.market.play_turn.Goals.returns
 returns g c =
     let setup = setup_in c.args.board.now in
     let economy = c.args.market.now.economy.now in

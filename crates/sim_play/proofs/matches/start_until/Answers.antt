@@ -1,8 +1,7 @@
 -- The board was started.
 use Rattle.sim_play.proofs.{Common.ap, Common.arith, Common.Setup, Playing.came, Starting.started_turn, Starting.started_until, Starting.started_valid}
-use Rattle.sim_play.proofs.matches.start_until.Goals as goal
 
-pub play-requires : goal.play-requires
+pub play-requires : Rattle.sim_play.proofs.matches.start_until.Goals.play-requires
 play-requires g c = record {
   whole = c.in_ok-start.ensures.whole;
   valid = started_valid _ _ _ c.in_ok-start.ensures.setup c.in_ok-start.ensures.state c.requires.limits;
@@ -10,7 +9,7 @@ play-requires g c = record {
   within = omega (arith, c.requires.within, ap (λ (s : Setup). s.turns) c.in_ok-start.ensures.setup);
 }
 
-pub returns-clause-ends : goal.returns-clause-ends
+pub returns-clause-ends : Rattle.sim_play.proofs.matches.start_until.Goals.returns-clause-ends
 returns-clause-ends g c =
     came _ _ _ c.play.result _ c.start.new.self _ c.in_ok-start.ensures.most c.in_ok-start.ensures.setup
     (record { state = c.play.ensures.state; whole = c.play.ensures.whole; kept = c.play.ensures.kept; setup = c.play.ensures.setup })

@@ -1,9 +1,8 @@
 -- What is loaded is the state of the turn, so the lines of the second client begin there.
 use Rattle.sim_play.proofs.Common.{◌≡◌, ℕ, suc, List, ◌++◌, string_bytes, codes, after, ap, own_turns, past_lines, Setup, setup_in, StandsFor, subst, sym, ◌∙◌}
 use Rattle.sim_play.proofs.Past.{joined_text, own_at, own_by_turn}
-use Rattle.sim_play.proofs.rejoin.rejoin_text.Goals as goal
 
-pub rest_text-text-requires-clause-own : goal.rest_text-text-requires-clause-own
+pub rest_text-text-requires-clause-own : Rattle.sim_play.proofs.rejoin.rejoin_text.Goals.rest_text-text-requires-clause-own
 rest_text-text-requires-clause-own g c =
     let setup = c.args.setup.now in
     let turn = c.args.turn in
@@ -12,7 +11,7 @@ rest_text-text-requires-clause-own g c =
     (c.in-Ok-loaded.ensures.state (after setup (own_turns setup 0 turn)) (subst (λ (xs : List ℕ). StandsFor setup xs (after setup (own_turns setup 0 turn)))
     (sym c.deref.ensures.value) stored))
 
-pub returns-in-Ok-loaded-clause-text : goal.returns-in-Ok-loaded-clause-text
+pub returns-in-Ok-loaded-clause-text : Rattle.sim_play.proofs.rejoin.rejoin_text.Goals.returns-in-Ok-loaded-clause-text
 returns-in-Ok-loaded-clause-text g c =
     let setup = c.args.setup.now in
     let same = setup_in c.new-board.result in

@@ -1,5 +1,5 @@
 -- What is told of a sight that was joined is told of the file.
-use Rattle.sim_play.proofs.{Common.setup_in, Later.resumed_told}
+use Rattle.sim_play.proofs.{Common.setup_in, Past.resumed_told}
 
 pub returns-clause-text : Rattle.sim_play.proofs.sights.resight_text.Goals.returns-clause-text
 returns-clause-text g c =

@@ -1,6 +1,6 @@
 -- The area is that of the points that there are.
-use Rattle.sim_range.proofs.{Areas.some_is, Common.AreApart, Common.Fact}
 use Rattle.sim_range.proofs.area.area_of.Goals as goal
+use Rattle.sim_range.proofs.{Common.AreApart, Common.Fact, Nearing.some_is}
 
 pub returns-in-Some-Some-clause-before : goal.returns-in-Some-Some-clause-before
 returns-in-Some-Some-clause-before c = λ k beside p placed key. some_is c.args.before.now c.in-Some-Some.from (λ (f : Fact). AreApart c.args.reach p f.at)

@@ -1,5 +1,5 @@
 -- One entity more stands in its bucket.
-use Rattle.sim_range.proofs.{Changing.one_more_bucketed, Common.arith}
+use Rattle.sim_range.proofs.{Common.arith, Nearing.one_more_bucketed}
 
 pub loop-fact-preserved : Rattle.sim_range.proofs.buckets.buckets_of.Goals.loop-fact-preserved
 loop-fact-preserved c = (

@@ -42,14 +42,14 @@ loop-watcher-preserved c =
           (let is = ap vec_items w.sights-is in
           let new = w.turn_at.new.sights.items in
           record {
-            along = ap (λ (ss : List Sight). length ss) is ∙ w.turn_at.ensures.along ∙ kept.along;
+            along = ap (λ (ss : List Sight). length ss) is ∙ w.turn_at.ensures.elsewhere.along ∙ kept.along;
             seen = λ i f d lt. ap (λ (ss : List Sight). ids_at ss i d) is
                 ∙ next_seen land c.args.id c.args.after.now facts c.args.held.now.holds.held.ascending c.requires.named watchers j (grind arith) old kept.seen
-                kept.room w.in-Ok.at w.in-Ok.ensures w.index-held-at.result w.index-held-at.is new w.turn_at.ensures.others w.is_seen.result
+                kept.room w.in-Ok.at w.in-Ok.ensures w.index-held-at.result w.index-held-at.is new w.turn_at.ensures.elsewhere.others w.is_seen.result
                 (w.is_seen.ensures ∙ ap (λ (g : Fact). is_seen land g c.args.after.now) (sym w.index-held-at.is)) w.turn_at.ensures.there i f d lt;
             room = λ i f d lt among none. subst (λ (ss : List Sight). vec_len (get_or ss i d).ids < vec_capacity (get_or ss i d).ids) (sym is)
                 (next_room land c.args.id c.args.after.now facts c.args.held.now.holds.held.ascending c.requires.named watchers j (grind arith) old kept.seen
-                kept.room w.in-Ok.at w.in-Ok.ensures w.index-held-at.result w.index-held-at.is new w.turn_at.ensures.others i f d lt among
+                kept.room w.in-Ok.at w.in-Ok.ensures w.index-held-at.result w.index-held-at.is new w.turn_at.ensures.elsewhere.others i f d lt among
                 none);
             more = λ room. subst (λ (v : _). vec_len v < vec_capacity v) (sym w.sights-is) (w.turn_at.ensures.room (kept.more room));
           })

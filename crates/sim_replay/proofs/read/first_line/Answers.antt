@@ -1,9 +1,8 @@
 -- The first line ends at the first line feed.
-use Rattle.std.{proofs.lemmas.List.length-drop, proofs.lemmas.List.length-take, proofs.lemmas.List.Splits.slice_split_first, specs.List.position}
-use Rattle.sim_replay.proofs.Common.{◌≡◌, ℕ, ◌+◌, ◌-◌, ◌<◌, ◌≤◌, Bool, true, false, cond, not, ltb, List, [], ◌∷◌, length, take, drop, ◌==◌, Some, None}
-use Rattle.sim_replay.proofs.Common.{ap, arith, ltb-false, ltb-true, onto_first, parts_of, position_or_len, refl, slice_split-cons_no, sym, take_all, ◌∙◌}
-use Rattle.sim_replay.{proofs.Options.passed, specs.Reading.IsFirstLine}
-use Rattle.sim_replay.proofs.read.first_line.Goals as goal
+use Rattle.sim_replay.proofs.Common.{[], ap, arith, Bool, cond, drop, false, length, List, ltb, ltb-false, ltb-true, None, not, onto_first, parts_of}
+use Rattle.sim_replay.proofs.Common.{position_or_len, refl, slice_split-cons_no, Some, sym, take, take_all, true, ℕ, ◌+◌, ◌-◌, ◌<◌, ◌==◌, ◌∙◌, ◌∷◌, ◌≡◌, ◌≤◌}
+use Rattle.sim_replay.{proofs.Cuts.passed, specs.Logs.IsFirstLine}
+use Rattle.std.{proofs.lemmas.List.Splits.slice_split_first, proofs.lemmas.List.length-drop, proofs.lemmas.List.length-take, specs.List.position}
 
 -- with no line feed the bytes are the one part
 unended : (bytes : List ℕ) → length bytes ≤ position_or_len (λ c. c == 10) bytes → parts_of bytes ≡ bytes ∷ []
@@ -49,8 +48,8 @@ ended_at bytes at e = (first, omega (arith, length-take at bytes, length-drop (a
     first = slice_split_first (λ b. b == 10) bytes 0 below ∙ ap (λ (n : ℕ). take n bytes ∷ parts_of (drop (n + 1) bytes)) same
         ∙ ap (λ (rest : List ℕ). take at bytes ∷ parts_of rest) (sym whole)
 
-pub returns-in-None : goal.returns-in-None
+pub returns-in-None : Rattle.sim_replay.proofs.read.first_line.Goals.returns-in-None
 returns-in-None c = none_ended c.args.bytes.now c.in-None.ensures
 
-pub returns-in-Some : goal.returns-in-Some
+pub returns-in-Some : Rattle.sim_replay.proofs.read.first_line.Goals.returns-in-Some
 returns-in-Some c = ended_at c.args.bytes.now c.in-Some.at c.in-Some.ensures

@@ -1,7 +1,6 @@
 -- Bytes are a text where they are UTF-8.
 use Rattle.sim_replay.proofs.Common.{◌≡◌, ℕ, Bool, true, false, cond, List, Some, None, ap, cond-true, is_utf8, is_utf8-from_IsUtf8, refl, sym, text_in, ◌∙◌}
 use Rattle.std.{proofs.lemmas.Str.IsUtf8-from_is_utf8, specs.Str.IsUtf8}
-use Rattle.sim_replay.proofs.spelled.text_in.Goals as goal
 
 text_is : (text bytes : List ℕ) → text ≡ bytes → IsUtf8 bytes → Some text ≡ text_in bytes
 text_is text bytes same utf8 = ap Some same ∙ sym (cond-true _ _ _ (is_utf8-from_IsUtf8 bytes utf8))
@@ -13,8 +12,8 @@ no_text bytes refused = by (is_utf8 bytes) refl
     by true e = absurd (refused (IsUtf8-from_is_utf8 bytes e))
     by false e = refl
 
-pub returns-in-Ok : goal.returns-in-Ok
+pub returns-in-Ok : Rattle.sim_replay.proofs.spelled.text_in.Goals.returns-in-Ok
 returns-in-Ok c = text_is c.in-Ok.text.now c.args.bytes.now c.in-Ok.ensures.cases.0 c.in-Ok.ensures.cases.1
 
-pub returns-in-Err : goal.returns-in-Err
+pub returns-in-Err : Rattle.sim_replay.proofs.spelled.text_in.Goals.returns-in-Err
 returns-in-Err c = no_text c.args.bytes.now c.in-Err.ensures.cases.0

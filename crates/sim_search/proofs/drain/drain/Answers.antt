@@ -1,8 +1,8 @@
-use Rattle.sim_search.proofs.{Common.size_of, Common.subst, Common.sym, drain.drain.Goals.in-Some+in_ok-expand, drain.drain.Goals.in_default}
-use Rattle.sim_search.proofs.Cells.{entry_at-there}
-use Rattle.sim_search.proofs.Common.{arith, ◌≡◌, ◌+◌, Bool, List, ◌∷◌, get_or, drop, at_drop_more, Cell, Drains, drop_all, field_of_grid, known, Search, true≢false, ◌∙◌}
-use Rattle.sim_search.proofs.Draining.{Draining, draining_begins, draining_past, draining_taken, waits-first}
 use Rattle.sim_search.proofs.drain.drain.Goals as goal
+use Rattle.sim_search.proofs.Common.{arith, at_drop_more, Bool, Cell, Drains, drop, drop_all, field_of_grid, get_or, known, List, Search, size_of, subst, sym}
+use Rattle.sim_search.proofs.drain.drain.Goals.{in-Some+in_ok-expand, in_default}
+use Rattle.sim_search.proofs.{Common.true≢false, Common.◌+◌, Common.◌∙◌, Common.◌∷◌, Common.◌≡◌, Draining.Draining, Draining.draining_begins}
+use Rattle.sim_search.proofs.{Draining.draining_past, Draining.draining_taken, Draining.waits-first, Rows.entry_at-there}
 
 pub loop-cell-init : goal.loop-cell-init
 loop-cell-init g c =

@@ -1,5 +1,6 @@
-use Rattle.sim_search.proofs.Common.{◌+◌, field_of_grid, IfOk-from_err, Search, subst, sym}
+use Rattle.sim_search.proofs.Common.{◌+◌, AreMoves, Cell, field_of_grid, IfOk-from_err, Search, subst, sym, ◌∙◌}
 use Rattle.sim_search.proofs.Draining.{expanded, Expanding, expanding_begins, expanding_more, expanding_none}
+use Rattle.sim_search.proofs.{Moves.open-moves, drain.expand.Goals.else-start_open, drain.expand.Goals.then-start_open}
 use Rattle.sim_search.proofs.drain.expand.Goals.{in-Some+in_ok-lower, in_default}
 use Rattle.sim_search.proofs.drain.expand.Goals as goal
 
@@ -22,6 +23,19 @@ loop-which-preserved g c =
           (expanding_none (g.A.Guide.estimate_of c.args.aim) field c.args.search.now c.loop-which.search c.args.from c.args.cost
           c.loop-which.which c.loop-which.invariant (c.step_beside.ensures.none w.in_default.is))
     ]
+
+-- the steps that the grid keeps are those that are allowed from an open start
+pub step_beside-requires-clause-moves : goal.step_beside-requires-clause-moves
+step_beside-requires-clause-moves g c =
+    let field = field_of_grid c.args.grid.now in
+    let start = c.args.search.now.start in
+    let moves : AreMoves field start c.args.from c.if-start_open.moves =
+    elim c.if-start_open.branch [
+      | then-start_open w ↦ subst (AreMoves field start c.args.from) (sym w.moves-is)
+          (open-moves field start (sym c.requires.start_open ∙ w.if-start_open.true) c.args.from w.steps-moves.result w.steps-moves.ensures)
+      | else-start_open w ↦ subst (AreMoves field start c.args.from) (sym w.moves-is) w.moves_by_trial-moves.ensures
+    ] in
+    subst (λ (v : Cell). AreMoves field v c.args.from c.if-start_open.moves) (sym c.loop-which.invariant.start_is) moves
 
 pub returns : goal.returns
 returns g c =

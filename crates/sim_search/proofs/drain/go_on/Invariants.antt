@@ -1,7 +1,6 @@
 use Rattle.sim_search.proofs.Common.{◌≡◌, ◌+◌, ◌-◌, ◌*◌, ◌≤◌, [], field_of_grid, Ready, untaken}
-use Rattle.sim_search.proofs.drain.go_on.Given as goal
 
-abbrev pub invariant-loop-idle : goal.invariant-loop-idle
+abbrev pub invariant-loop-idle : Rattle.sim_search.proofs.drain.go_on.Given.invariant-loop-idle
 invariant-loop-idle g l = record {
   start : l.search.start ≡ l.fn.stage.search.start;
   ready : Ready (g.A.Guide.estimate_of l.aim) (field_of_grid l.grid) l.search l.now l.idle;
@@ -10,5 +9,5 @@ invariant-loop-idle g l = record {
   spare : l.spare ≡ [];
 }
 
-abbrev pub decreases-loop-idle : goal.decreases-loop-idle
+abbrev pub decreases-loop-idle : Rattle.sim_search.proofs.drain.go_on.Given.decreases-loop-idle
 decreases-loop-idle g l = 33 * untaken l.search + (33 - l.idle)

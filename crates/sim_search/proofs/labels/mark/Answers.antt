@@ -1,9 +1,8 @@
-use Rattle.{sim_grid.proofs.Beside.place-below, sim_search.proofs.Cells.entry_at-on, sim_search.proofs.Floods.none-is}
-use Rattle.sim_search.proofs.Common.{inr, IsOnGround, length-append, place_at, rules, Size, size_in, subst, sum_by-set, sym, ◌∙◌}
-use Rattle.sim_search.proofs.Common.{◌≡◌, ℕ, ◌*◌, ◌<◌, cond, [], ◌∷◌, length, get_or, is_none, Some, None, sum_by, Option, ap, arith, entry_in, IfOk-from_err}
-use Rattle.sim_search.proofs.labels.mark.Goals as goal
+use Rattle.sim_search.proofs.Common.{Size, Some, place_at, rules, size_in, subst, sum_by, sum_by-set, sym, ℕ, ◌*◌, ◌<◌, ◌∙◌, ◌∷◌, ◌≡◌}
+use Rattle.sim_search.proofs.Common.{[], ap, arith, cond, entry_in, get_or, IfOk-from_err, inr, is_none, IsOnGround, length, length-append, None, Option}
+use Rattle.{sim_grid.proofs.Beside.place-below, sim_search.proofs.Floods.none-is, sim_search.proofs.Rows.entry_at-on}
 
-pub returns-in_ok-push : goal.returns-in_ok-push
+pub returns-in_ok-push : Rattle.sim_search.proofs.labels.mark.Goals.returns-in_ok-push
 returns-in_ok-push c =
     let old = c.args.flood.now in
     let t = old.table in
@@ -33,5 +32,5 @@ returns-in_ok-push c =
       );
     })
 
-pub returns-in_err-push : goal.returns-in_err-push
+pub returns-in_err-push : Rattle.sim_search.proofs.labels.mark.Goals.returns-in_err-push
 returns-in_err-push c = IfOk-from_err _ _ c.from_residual.ensures.0

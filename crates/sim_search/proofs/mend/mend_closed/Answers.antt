@@ -1,12 +1,11 @@
 -- The labels of all other cells are still right.
-use Rattle.sim_search.{proofs.Common.is_open_at, proofs.Mending.closed-labels, specs.Floods.label_in, specs.Mending.AreOpen, specs.Mending.AreOthersKept}
-use Rattle.sim_search.proofs.Common.{Cell, field_of_grid, is_some, List, subst, sym, true≢false}
-use Rattle.sim_search.proofs.mend.mend_closed.Goals as goal
+use Rattle.sim_search.proofs.Common.{Cell, field_of_grid, is_open_at, is_some, List, subst, sym, true≢false}
+use Rattle.sim_search.{proofs.Regions.closed-labels, specs.Floods.AreOpen, specs.Floods.AreOthersKept, specs.Floods.label_in}
 
-pub are_others_kept-requires-clause-rim : goal.are_others_kept-requires-clause-rim
-are_others_kept-requires-clause-rim c = subst (AreOpen (field_of_grid c.args.grid.now)) (sym c.as_slice.ensures.value) c.in-Ok.ensures.are_open
+pub are_others_kept-requires : Rattle.sim_search.proofs.mend.mend_closed.Goals.are_others_kept-requires
+are_others_kept-requires c = subst (AreOpen (field_of_grid c.args.grid.now)) (sym c.as_slice.ensures.value) c.in-Ok.ensures.are_open
 
-pub returns : goal.returns
+pub returns : Rattle.sim_search.proofs.mend.mend_closed.Goals.returns
 returns c =
     let size = c.args.grid.now.size in
     let label = label_in c.args.labels.now in

@@ -1,15 +1,10 @@
 -- The labels of all other cells are still right, and those that were opened have theirs.
-use Rattle.std.proofs.lemmas.List.Elements.{All-contains}
-use Rattle.sim_search.proofs.{Added.not_empty, Common.is_open_at, Mending.IsRoot, Mending.opened-labels, Mending.root-alone, Mending.root-beside}
-use Rattle.sim_search.proofs.Common.{◌≡◌, ℕ, ◌<◌, ◌⊎◌, All-weaker, Bool, Cell, Contains, Contains-get_or, field_of_grid, get_or, inl, inr, is_some, length}
-use Rattle.sim_search.proofs.Common.{AreLabels, List, Option, place_of, Size, sym, true≢false}
 use Rattle.sim_search.proofs.mend.mend_opened.Goals as goal
-use Rattle.sim_search.specs.{Floods.label_in, Mending.AreJoined, Mending.HasRoom, Mending.IsBeside, Mending.Suits}
-
-pub label_for-label-requires : goal.label_for-label-requires
-label_for-label-requires c =
-    let lt : 0 < length c.args.cells.now = not_empty (length c.args.cells.now) c.is_empty.result c.is_empty.ensures c.if-is_empty.false in
-    c.requires.opened.on (get_or c.args.cells.now 0 (record { x = 0; z = 0 })) (Contains-get_or c.args.cells.now 0 (record { x = 0; z = 0 }) lt)
+use Rattle.sim_search.proofs.Common.{All-weaker, AreLabels, Bool, Cell, Contains, Contains-get_or, field_of_grid, get_or, inl, inr, is_open_at, is_some, length}
+use Rattle.sim_search.proofs.{Added.not_empty, Common.List, Common.Option, Common.Size, Common.place_of, Common.sym, Common.true≢false, Common.ℕ, Common.◌<◌}
+use Rattle.sim_search.proofs.{Common.◌≡◌, Common.◌⊎◌, Regions.IsRoot, Regions.opened-labels, Regions.root-alone, Regions.root-beside}
+use Rattle.sim_search.specs.Floods.{AreJoined, HasRoom, IsBeside, label_in, Suits}
+use Rattle.std.proofs.lemmas.List.Elements.{All-contains}
 
 pub give-requires : goal.give-requires
 give-requires c = All-weaker (Suits c.args.labels.now c.args.grid.now.size c.label_for-label.result) (HasRoom c.args.labels.now) (λ e s. s.room)

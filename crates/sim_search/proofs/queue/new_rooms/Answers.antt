@@ -5,7 +5,7 @@ use Rattle.sim_search.proofs.queue.new_rooms.Goals as goal
 
 pub returns : goal.returns
 returns c =
-    let size : Size = record { width = c.args.width; depth = c.args.depth } in
+    let size : Size = record { width = c.args.origin.width; depth = c.args.origin.depth } in
     let unread : Entry → Type 0 = λ e. read_entry 1 e ≡ None in
     let unmarked : ℕ → Type 0 = λ t. nat_eq t 1 ≡ false in
     record {
@@ -33,8 +33,8 @@ invariant_of-costs c =
     let room : c.in_ok-items.items.len ≡ length c.in_ok-items.items.items = omega (arith, c.in_ok-items.items.ok.0) in
     let stamped : Entry → Type 0 = λ e. e.stamp ≤ 1 in
     record {
-      narrow = c.requires.narrow;
-      shallow = c.requires.shallow;
+      narrow = c.args.origin.narrow;
+      shallow = c.args.origin.shallow;
       full = room ∙ ap length c.in_ok-items.ensures ∙ length-replicate _ blank ∙ ap₂ (λ (w d : ℕ). w * d) c.from.ensures c.from-2.ensures;
       stamped = subst (All stamped) (sym c.in_ok-items.ensures) (All-replicate stamped _ blank (omega arith));
     }
@@ -45,8 +45,8 @@ invariant_of-result c =
     let rings : c.in_ok-buckets.buckets.len ≡ length c.in_ok-buckets.buckets.items = omega (arith, c.in_ok-buckets.buckets.ok.0) in
     let marked : ℕ → Type 0 = λ t. t ≤ 1 in
     record {
-      east = c.requires.east;
-      north = c.requires.north;
+      east = c.args.origin.east;
+      north = c.args.origin.north;
       all_cells = room ∙ ap length c.in_ok-taken.ensures ∙ length-replicate _ 0 ∙ ap₂ (λ (w d : ℕ). w * d) c.from.ensures c.from-2.ensures;
       marked = subst (All marked) (sym c.in_ok-taken.ensures) (All-replicate marked _ 0 (omega arith));
       ring = rings ∙ ap length c.in_ok-buckets.ensures;

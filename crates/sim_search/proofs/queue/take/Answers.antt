@@ -1,6 +1,6 @@
-use Rattle.sim_search.proofs.Cells.{entry_at-on, entry_at-set_other, entry_at-set_same}
-use Rattle.sim_search.proofs.Common.{entry_at, eq-eqb, length-map, map-set, size_of, sum_by-set, sym, takens, ◌∙◌}
-use Rattle.sim_search.proofs.Common.{◌≡◌, ℕ, ◌*◌, ◌<◌, Bool, true, false, cond, not, eqb, List, map, length, get_or, set, sum_by, refl, ap, arith, Cell}
+use Rattle.sim_search.proofs.Common.{ap, arith, Bool, Cell, cond, entry_at, eq-eqb, eqb, false, get_or, length, length-map, List, map, map-set, not, refl, set}
+use Rattle.sim_search.proofs.Common.{size_of, sum_by, sum_by-set, sym, takens, true, ℕ, ◌*◌, ◌<◌, ◌∙◌, ◌≡◌}
+use Rattle.sim_search.proofs.Rows.{entry_at-on, entry_at-set_other, entry_at-set_same}
 
 pub returns : Rattle.sim_search.proofs.queue.take.Goals.returns
 returns c =

@@ -1,8 +1,7 @@
 use Rattle.sim_search.proofs.Common.{get_or_default, IfOk-from_err, is_lower_than, ltb-true, subst, sym, ◌∙◌}
 use Rattle.sim_search.proofs.Common.{◌≡◌, ℕ, ◌+◌, ◌%◌, List, [], ◌∷◌, ◌++◌, map, get_or, set, nat_eq, refl, ap, arith, Cell}
-use Rattle.sim_search.proofs.queue.wait.Goals as goal
 
-pub returns : goal.returns
+pub returns : Rattle.sim_search.proofs.queue.wait.Goals.returns
 returns g c =
     let old = c.args.search.now in
     let b = c.bucket.result in
@@ -24,5 +23,5 @@ returns g c =
           (ap (set old.buckets.items b) pushed);
     }
 
-pub returns-in_err-push : goal.returns-in_err-push
+pub returns-in_err-push : Rattle.sim_search.proofs.queue.wait.Goals.returns-in_err-push
 returns-in_err-push g c = IfOk-from_err _ _ c.from_residual.ensures.0

@@ -1,10 +1,9 @@
 -- The open cell in one direction more is added, if it lies in the window.
-use Rattle.sim_search.proofs.Added.{adding_begins, adding_done, adding_push, adding_same}
-use Rattle.sim_search.proofs.Common.{◌≡◌, true, List, Option, Cell, Contains, field_of_grid, Some, None, subst, sym, true≢false, ◌∙◌}
-use Rattle.sim_search.proofs.region.push_beside.Goals.{else-has-via-else-has, else-has-via-then-has+else-open, else-has-via-then-has+then-open+else-not-is_among}
-use Rattle.sim_search.proofs.region.push_beside.Goals.{in-Some+else-has, in-Some+then-has+then-open+then-not-is_among+in_ok-push, in_default}
 use Rattle.sim_search.proofs.region.push_beside.Goals as goal
-use Rattle.sim_search.specs.Mending.{IsInside}
+use Rattle.sim_search.proofs.Common.{Cell, Contains, field_of_grid, List, None, Option, Some, subst, sym, true, true≢false, ◌∙◌, ◌≡◌}
+use Rattle.sim_search.proofs.region.push_beside.Goals.{else-has-via-else-has, else-has-via-then-has+then-open+else-not-is_among, in-Some+else-has}
+use Rattle.sim_search.proofs.region.push_beside.Goals.{else-has-via-then-has+else-open, in-Some+then-has+then-open+then-not-is_among+in_ok-push, in_default}
+use Rattle.sim_search.{proofs.Added.adding_begins, proofs.Added.adding_done, proofs.Added.adding_push, proofs.Added.adding_same, specs.Floods.IsInside}
 
 one_cell : (o : Option Cell) (a b : Cell) → o ≡ Some a → o ≡ Some b → a ≡ b
 one_cell o a b e f = let both : Some a ≡ Some b = sym e ∙ f in cc

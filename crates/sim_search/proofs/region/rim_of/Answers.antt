@@ -1,11 +1,10 @@
 -- The open cells beside one cell more are added.
+use Rattle.sim_search.proofs.Common.{All-weaker, arith, Cell, Contains, field_of_grid, get_or, inl, inr, IsOnGround, IsOpenStep, List, neighbour-on, take, true}
+use Rattle.sim_search.proofs.{Added.gone_through, Common.ℕ, Common.◌≡◌, Common.◌⊎◌}
+use Rattle.sim_search.specs.{Floods.IsInside, declared.region.Window.Window}
 use Rattle.std.proofs.lemmas.List.Elements.{All-contains, All-more}
-use Rattle.sim_search.proofs.{Added.gone_through, Common.field_of_grid, Common.IsOnGround, Common.IsOpenStep, Common.neighbour-on}
-use Rattle.sim_search.proofs.Common.{◌≡◌, ℕ, ◌⊎◌, true, List, All-weaker, Cell, Contains, get_or, take, arith, inl, inr}
-use Rattle.sim_search.proofs.region.rim_of.Goals as goal
-use Rattle.sim_search.specs.{Mending.IsInside, declared.region.Window.Window}
 
-pub loop-cell-preserved : goal.loop-cell-preserved
+pub loop-cell-preserved : Rattle.sim_search.proofs.region.rim_of.Goals.loop-cell-preserved
 loop-cell-preserved c = record {
   are_open = λ e h. opened e (c.in_ok-push_beside.ensures.each e h);
   all = All-more Has xs i (record { x = 0; z = 0 }) c.loop-cell-test.true
@@ -46,7 +45,7 @@ loop-cell-preserved c = record {
     opened e (inl h) = c.loop-cell.invariant.are_open e h
     opened e (inr s) = (neighbour-on c.args.grid.now.size x e s.which s.leads, s.free)
 
-pub returns : goal.returns
+pub returns : Rattle.sim_search.proofs.region.rim_of.Goals.returns
 returns c =
     let Has = λ (a : Cell). (b : Cell) → IsOpenStep (field_of_grid c.args.grid.now) a b → Contains c.loop-cell.rim.items b in
     record {

@@ -1,6 +1,5 @@
-use Rattle.sim_grid.specs.declared.spot.Spot.{Spot}
-use Rattle.sim_search.proofs.Common.{◌∙◌, ◌≡◌, ap, bit_at, field_of_grid, shr_and_one, Some, sym}
-use Rattle.{sim_search.proofs.Moves.move-by_bit, sim_search.proofs.Moves.move-of, std.proofs.lemmas.Option.same_Some}
+use Rattle.sim_search.proofs.Common.{ap, bit_at, field_of_grid, shr_and_one, Some, sym, ◌∙◌, ◌≡◌}
+use Rattle.{sim_grid.specs.declared.spot.Spot.Spot, sim_search.proofs.Moves.move-by_bit, sim_search.proofs.Moves.move-of, std.proofs.lemmas.Option.same_Some}
 
 pub returns-then-moves-which-eq1-clause-some : Rattle.sim_search.proofs.steps.step_beside.Goals.returns-then-moves-which-eq1-clause-some
 returns-then-moves-which-eq1-clause-some c =

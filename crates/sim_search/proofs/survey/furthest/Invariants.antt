@@ -1,9 +1,8 @@
 use Rattle.std.specs.Prelude.{IfSome}
 use Rattle.sim_search.proofs.Common.{◌≡◌, true, Cell, is_open_at, IsOnGround}
-use Rattle.sim_search.proofs.survey.furthest.Given as goal
 
-abbrev pub invariant-loop-x : goal.invariant-loop-x
+abbrev pub invariant-loop-x : Rattle.sim_search.proofs.survey.furthest.Given.invariant-loop-x
 invariant-loop-x l = IfSome l.found (λ (c : Cell). IsOnGround l.grid.size c × (is_open_at l.grid c ≡ true))
 
-abbrev pub invariant-loop-z : goal.invariant-loop-z
+abbrev pub invariant-loop-z : Rattle.sim_search.proofs.survey.furthest.Given.invariant-loop-z
 invariant-loop-z l = IfSome l.found (λ (c : Cell). IsOnGround l.grid.size c × (is_open_at l.grid c ≡ true))

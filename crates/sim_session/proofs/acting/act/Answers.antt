@@ -1,8 +1,8 @@
 -- The server hears what a client said; systems are built by loads alone; and a step that is not enabled comes to an end.
-use Rattle.sim_session.proofs.{Acted.acted, Beside.unbuilt, Beside.up_makes, Common.anyway}
-use Rattle.sim_session.proofs.Common.{client_of, events_by, has_load, IfOk, IsClient, IsOk, life_at, LoadsBy, Makes, MayHearBy, refl, rules, Step, subst, sym}
-use Rattle.sim_session.proofs.Idling.{bend_idle, cut_idle, down_idle, join_idle, order_idle, play_idle, up_idle, WhereIdle}
 use Rattle.sim_session.proofs.acting.act.Goals as goal
+use Rattle.sim_session.proofs.Common.{anyway, client_of, events_by, has_load, IfOk, IsClient, IsOk, life_at, LoadsBy, Makes, MayHearBy, refl, rules, Step}
+use Rattle.sim_session.proofs.Idling.{down_idle, join_idle, order_idle, play_idle, up_idle}
+use Rattle.sim_session.proofs.{Beside.acted, Beside.unbuilt, Beside.up_makes, Common.subst, Common.sym, Idling.WhereIdle, Idling.bend_idle, Idling.cut_idle}
 
 -- ---- who may
 

@@ -2,9 +2,8 @@
 use Rattle.sim_session.proofs.Beside.{bend_makes, then_ok}
 use Rattle.sim_session.proofs.Common.{true, false, refl, anyway, ap, bends, life_at, rules, shows, subst, Tells, ◌∙◌}
 use Rattle.sim_base.specs.declared.step.Event.TheVariants as event
-use Rattle.sim_session.proofs.acting.bend.Goals as goal
 
-pub returns-then-not-bend-clause-acts : goal.returns-then-not-bend-clause-acts
+pub returns-then-not-bend-clause-acts : Rattle.sim_session.proofs.acting.bend.Goals.returns-then-not-bend-clause-acts
 returns-then-not-bend-clause-acts g c =
     let client = c.args.client.now in
     let new = c.bend.new.self in
@@ -21,7 +20,7 @@ returns-then-not-bend-clause-acts g c =
       rules = refl;
     }
 
-pub returns-clause-acts : goal.returns-clause-acts
+pub returns-clause-acts : Rattle.sim_session.proofs.acting.bend.Goals.returns-clause-acts
 returns-clause-acts g c =
     let client = c.args.client.now in
     let new = c.bend.new.self in

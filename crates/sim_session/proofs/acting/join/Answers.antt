@@ -1,16 +1,15 @@
 -- The wish of a client goes up.
 use Rattle.sim_session.proofs.{Beside.join_makes, Beside.join_small, Idling.nothing_said}
 use Rattle.sim_session.proofs.Common.{◌≡◌, IfOk, All, anyway, IsSmallUp, joins, life_at, said_events, subst, sym, ◌∙◌}
-use Rattle.sim_session.proofs.acting.join.Goals as goal
 
-pub tell-requires-clause-small : goal.tell-requires-clause-small
+pub tell-requires-clause-small : Rattle.sim_session.proofs.acting.join.Goals.tell-requires-clause-small
 tell-requires-clause-small g c =
     let client = c.args.client.now in
     let new = c.join.new.self in
     subst (All IsSmallUp) (sym (c.as_slice.ensures ∙ c.ups_of-ups.ensures))
     (join_small (life_at client.stage client.board) c.in_ok-did.did (life_at new.stage new.board) c.in_ok-did.ensures.answers)
 
-pub returns : goal.returns
+pub returns : Rattle.sim_session.proofs.acting.join.Goals.returns
 returns g c =
     let client = c.args.client.now in
     let new = c.join.new.self in

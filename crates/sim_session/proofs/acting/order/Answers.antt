@@ -1,9 +1,8 @@
 -- What a client says that gives a command goes up.
 use Rattle.sim_session.proofs.{Beside.order_makes, Beside.order_small, Idling.nothing_said}
 use Rattle.sim_session.proofs.Common.{◌≡◌, IfOk, All, anyway, IsSmallUp, life_at, orders, said_events, subst, sym, ◌∙◌}
-use Rattle.sim_session.proofs.acting.order.Goals as goal
 
-pub tell-requires-clause-small : goal.tell-requires-clause-small
+pub tell-requires-clause-small : Rattle.sim_session.proofs.acting.order.Goals.tell-requires-clause-small
 tell-requires-clause-small g c =
     let client = c.args.client.now in
     let new = c.order.new.self in
@@ -11,7 +10,7 @@ tell-requires-clause-small g c =
     (order_small client.setup.now c.args.command.now (life_at client.stage client.board) c.in_ok-did.did (life_at new.stage new.board) c.requires.few
     c.in_ok-did.ensures.answers)
 
-pub returns : goal.returns
+pub returns : Rattle.sim_session.proofs.acting.order.Goals.returns
 returns g c =
     let client = c.args.client.now in
     let new = c.order.new.self in

@@ -1,16 +1,15 @@
 -- The line of one client more stands behind those so far.
 use Rattle.sim_session.proofs.{NextClients.at_place, NextClients.life_next, Telling.told_more}
 use Rattle.sim_session.proofs.TextCommon.{◌≡◌, ◌+◌, ◌<◌, ◌++◌, length, string_bytes, IsMember, life_at, pair_apart, rules, state_of}
-use Rattle.sim_session.proofs.closing.push_beside.Goals as goal
 
-pub push_pair-requires-clause-right : goal.push_pair-requires-clause-right
+pub push_pair-requires-clause-right : Rattle.sim_session.proofs.closing.push_beside.Goals.push_pair-requires-clause-right
 push_pair-requires-clause-right g c =
     let lt : c.loop-index.index < length c.args.clients.now = search rules in
     (at_place (IsMember c.args.setup.now (λ i. (g.dyn-2.0.entry i).1)) c.args.clients.now c.loop-index.index c.index-clients-index.result
     c.requires.clients.members lt
     c.index-clients-index.is).sound
 
-pub loop-index-preserved : goal.loop-index-preserved
+pub loop-index-preserved : Rattle.sim_session.proofs.closing.push_beside.Goals.loop-index-preserved
 loop-index-preserved g c =
     let l = c.loop-index in
     let clients = c.args.clients.now in

@@ -1,15 +1,14 @@
 -- The line of one client more stands behind those so far.
 use Rattle.sim_session.proofs.{NextClients.at_place, NextClients.life_next, Telling.told_more}
 use Rattle.sim_session.proofs.TextCommon.{◌≡◌, ◌+◌, ◌<◌, ◌++◌, length, string_bytes, end_line, end_seen, IsMember, life_at, rules}
-use Rattle.sim_session.proofs.closing.push_ends.Goals as goal
 
-pub end_of-requires : goal.end_of-requires
+pub end_of-requires : Rattle.sim_session.proofs.closing.push_ends.Goals.end_of-requires
 end_of-requires g c =
     let lt : c.loop-index.index < length c.args.clients.now = search rules in
     (at_place (IsMember c.args.setup.now (λ i. (g.dyn-2.0.entry i).1)) c.args.clients.now c.loop-index.index c.index-clients-index.result c.requires.members lt
     c.index-clients-index.is).sound
 
-pub loop-index-preserved : goal.loop-index-preserved
+pub loop-index-preserved : Rattle.sim_session.proofs.closing.push_ends.Goals.loop-index-preserved
 loop-index-preserved g c =
     let l = c.loop-index in
     let setup = c.args.setup.now in

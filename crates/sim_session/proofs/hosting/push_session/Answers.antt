@@ -1,8 +1,8 @@
 -- What is printed of the whole session.
-use Rattle.sim_session.proofs.{Beside.then_on, Common.anyway, HostTelling.told_whole, Keeping.keeps_on, Stopping.built_at_start, Stopping.built_with_steps}
-use Rattle.sim_session.proofs.TextCommon.{◌++◌, ◌∙◌, All, AllBuiltAtMost, ap, ending_seen, events_after, IsMember, length, length-map, life_at, loads_in}
-use Rattle.sim_session.proofs.TextCommon.{opened, rules, seen_in, session_of, session_text, Setup, StandsFor, string_bytes, subst, sym, systems_by, systems_on}
 use Rattle.sim_session.proofs.hosting.push_session.Goals as goal
+use Rattle.sim_session.proofs.TextCommon.{All, AllBuiltAtMost, ap, ending_seen, events_after, IsMember, length, length-map, life_at, loads_in, opened, rules}
+use Rattle.sim_session.proofs.TextCommon.{Setup, StandsFor, seen_in, session_of, session_text, string_bytes, subst, sym, systems_by, systems_on, ◌++◌, ◌∙◌}
+use Rattle.sim_session.proofs.{Beside.then_on, Builds.built_at_start, Builds.built_with_steps, Builds.keeps_on, Common.anyway, Seeing.told_whole}
 
 pub push_ending-requires-clause-clients : goal.push_ending-requires-clause-clients
 push_ending-requires-clause-clients g c =

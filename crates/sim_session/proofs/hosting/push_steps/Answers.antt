@@ -1,10 +1,10 @@
 -- One step more is made, and the lines of its events stand behind those so far.
-use Rattle.sim_session.proofs.{Builds.all_built_so, Builds.step_built, Keeping.keeps_on, Loads.loads_are_own, MoreSteps.lines_more, MoreSteps.loads_more}
-use Rattle.sim_session.proofs.{MoreSteps.stands_more, NextClients.at_place, Stopping.built_by_then, TextCommon.◌+◌, TextCommon.◌-◌}
-use Rattle.sim_session.proofs.TextCommon.{◌<◌, ◌∙◌, ◌≡◌, ◌≤◌, ap, append_assoc, AreBuiltIf, arith, ChangeAt, client_of, Event, events, events_after, get_or}
-use Rattle.sim_session.proofs.TextCommon.{has_load, IsStep, length, length-map, lines_of, List, loads_in, opened, rules, seen_in, session as session_over}
-use Rattle.sim_session.proofs.TextCommon.{Setup, StandsFor, Step, Steps, string_bytes, subst, sym, systems_by, systems_on, take, true, ℕ}
 use Rattle.sim_session.proofs.hosting.push_steps.Goals as goal
+use Rattle.sim_session.proofs.TextCommon.{ap, append_assoc, AreBuiltIf, arith, ChangeAt, client_of, Event, events, events_after, get_or, has_load, IsStep}
+use Rattle.sim_session.proofs.TextCommon.{length, length-map, lines_of, List, loads_in, opened, rules, seen_in, session as session_over, Setup, StandsFor, Step}
+use Rattle.sim_session.proofs.TextCommon.{sym, systems_by, systems_on, take, true, ℕ, ◌+◌, ◌-◌, ◌<◌, ◌∙◌, ◌≡◌, ◌≤◌}
+use Rattle.sim_session.proofs.{Builds.all_built_so, Builds.built_by_then, Builds.keeps_on, Builds.step_built, Loads.loads_are_own, MoreSteps.lines_more}
+use Rattle.sim_session.proofs.{MoreSteps.loads_more, MoreSteps.stands_more, NextClients.at_place, TextCommon.Steps, TextCommon.string_bytes, TextCommon.subst}
 
 pub loop-step-preserved : goal.loop-step-preserved
 loop-step-preserved g c =

@@ -1,8 +1,8 @@
 -- The session stands for that over the steps so far, and the text has the lines of their events.
-use Rattle.{sim_session.specs.Going.KeepsBy, sim_session.specs.SessionWords.IsSessionBy}
-use Rattle.sim_session.proofs.TextCommon.{session as session_over, StandsFor, systems_by}
-use Rattle.sim_session.proofs.TextCommon.{◌≡◌, ◌++◌, take, string_bytes, AllBuiltAtMost, events_after, lines_of, loads_in, opened, seen_in}
 use Rattle.sim_session.proofs.hosting.push_steps.Given as goal
+use Rattle.sim_session.proofs.TextCommon.{AllBuiltAtMost, events_after, lines_of, loads_in, opened, seen_in, session as session_over, StandsFor, string_bytes}
+use Rattle.sim_session.proofs.TextCommon.{systems_by, take, ◌++◌, ◌≡◌}
+use Rattle.sim_session.specs.Going.{IsSessionBy, KeepsBy}
 
 abbrev pub invariant-loop-step : goal.invariant-loop-step
 invariant-loop-step g l =

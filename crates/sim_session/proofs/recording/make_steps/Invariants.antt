@@ -1,7 +1,7 @@
 -- The session stands for that over the steps so far.
-use Rattle.sim_session.proofs.TextCommon.{AllBuiltAtMost, events_after, loads_in, opened, seen_in, session as session_over, StandsFor, systems_by, take}
-use Rattle.sim_session.specs.{Going.KeepsBy, SessionWords.IsSessionBy}
 use Rattle.sim_session.proofs.recording.make_steps.Given as goal
+use Rattle.sim_session.proofs.TextCommon.{AllBuiltAtMost, events_after, loads_in, opened, seen_in, session as session_over, StandsFor, systems_by, take}
+use Rattle.sim_session.specs.Going.{IsSessionBy, KeepsBy}
 
 abbrev pub invariant-loop-step : goal.invariant-loop-step
 invariant-loop-step g l =

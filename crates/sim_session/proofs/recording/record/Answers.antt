@@ -1,7 +1,7 @@
 -- The commands of the released turns, after the beginning and all steps.
-use Rattle.sim_session.proofs.{Keeping.keeps_on, Stopping.built_at_start, Stopping.built_with_steps}
-use Rattle.sim_session.proofs.TextCommon.{◌∙◌, AllBuiltAtMost, events_after, length-map, loads_in, opened, Setup, subst, systems_by, systems_on}
 use Rattle.sim_session.proofs.recording.record.Goals as goal
+use Rattle.sim_session.proofs.Builds.{built_at_start, built_with_steps, keeps_on}
+use Rattle.sim_session.proofs.TextCommon.{AllBuiltAtMost, events_after, length-map, loads_in, opened, Setup, subst, systems_by, systems_on, ◌∙◌}
 
 pub returns-in_err-start-clause-built : goal.returns-in_err-start-clause-built
 returns-in_err-start-clause-built g c =

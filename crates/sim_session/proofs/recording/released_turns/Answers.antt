@@ -1,8 +1,8 @@
 -- All rigs come back cleared and in their order, each system in its place.
-use Rattle.sim_session.proofs.{Builds.all_built_so, Builds.none_built, Clearing.cleared_back, Keeping.built_back, Keeping.came_back}
-use Rattle.sim_session.proofs.TextCommon.{◌∙◌, ap, arith, builds_of, length-map, refl, Setup, subst, sym, systems_on, ℕ}
-use Rattle.{sim_session.specs.Going.ComeBackBuiltBy, sim_session.specs.SessionWords.rigs_by, sim_system.specs.RigWords.systems_by, std.proofs.Common.drop}
 use Rattle.sim_session.proofs.recording.released_turns.Goals as goal
+use Rattle.sim_session.proofs.Builds.{all_built_so, built_back, came_back, cleared_back, none_built}
+use Rattle.sim_session.proofs.TextCommon.{ap, arith, builds_of, length-map, refl, Setup, subst, sym, systems_on, ℕ, ◌∙◌}
+use Rattle.{sim_session.specs.Going.ComeBackBuiltBy, sim_session.specs.Going.rigs_by, sim_system.specs.RigWords.systems_by, std.proofs.Common.drop}
 
 pub returns-in-Ok-clause-cleared : goal.returns-in-Ok-clause-cleared
 returns-in-Ok-clause-cleared g c =

@@ -1,7 +1,7 @@
 -- One more rig has a client.
-use Rattle.{sim_session.proofs.Moving.drop_next, sim_session.proofs.Seating.holds_behind, sim_system.specs.RigWords.systems_by as rig_by}
-use Rattle.sim_session.proofs.Common.{[], ◌∷◌, ◌++◌, drop, ap, AreCleared, arith, HaveKinds, Off, replicate-append-replicate, ◌∙◌}
 use Rattle.sim_session.proofs.rigs.seat.Goals as goal
+use Rattle.sim_session.proofs.Common.{[], ap, AreCleared, arith, drop, HaveKinds, Off, replicate-append-replicate, ◌++◌, ◌∙◌, ◌∷◌}
+use Rattle.{sim_session.proofs.Stepping.drop_next, sim_session.proofs.Stepping.holds_behind, sim_system.specs.RigWords.systems_by as rig_by}
 
 pub loop-i-preserved : goal.loop-i-preserved
 loop-i-preserved g c =

@@ -1,8 +1,8 @@
 -- The first rig is cleared and complete, and its client is one of the match.
-use Rattle.sim_session.proofs.Common.{[], ◌++◌, ◌∙◌, ◌∷◌, ◌≡◌, All-append, All-cons, All-nil, ap, AreCleared, AreMembersBy, drop, HaveKinds, IsMemberBy}
-use Rattle.sim_session.proofs.Common.{life_at, lives_of, map-append, rigs_by, rules, subst, sym, systems_by, systems_on}
-use Rattle.{sim_session.proofs.Moving.moved_first, sim_session.proofs.Seating.holds_there, sim_system.specs.RigWords.systems_by as rig_by}
 use Rattle.sim_session.proofs.rigs.seat_one.Goals as goal
+use Rattle.sim_session.proofs.Common.{[], All-append, All-cons, All-nil, ap, AreCleared, AreMembersBy, drop, HaveKinds, IsMemberBy, life_at, lives_of}
+use Rattle.sim_session.proofs.Common.{map-append, rigs_by, rules, subst, sym, systems_by, systems_on, ◌++◌, ◌∙◌, ◌∷◌, ◌≡◌}
+use Rattle.{sim_session.proofs.Stepping.holds_there, sim_session.proofs.Stepping.moved_first, sim_system.specs.RigWords.systems_by as rig_by}
 
 pub new-client-requires-clause-kinds : goal.new-client-requires-clause-kinds
 new-client-requires-clause-kinds g c =

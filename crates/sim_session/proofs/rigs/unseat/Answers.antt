@@ -1,8 +1,8 @@
 -- The last client hands its rig back, in front of those that are back.
-use Rattle.sim_session.proofs.{Common.◌∙◌, Moving.drop_back, Moving.moved, Seating.holds_in_front, Seating.holds_last}
-use Rattle.sim_session.proofs.Common.{◌≡◌, ◌+◌, [], ◌∷◌, ◌++◌, length, ap, arith, HaveKinds, length-append, map-append, rigs_by, sym, systems_by, systems_on}
-use Rattle.sim_system.specs.RigWords.{systems_by as rig_by}
 use Rattle.sim_session.proofs.rigs.unseat.Goals as goal
+use Rattle.sim_session.proofs.Common.{[], ap, arith, HaveKinds, length, length-append, map-append, rigs_by, sym, systems_by, systems_on, ◌++◌, ◌+◌, ◌∙◌, ◌∷◌}
+use Rattle.sim_session.proofs.{Common.◌≡◌, Stepping.drop_back, Stepping.holds_in_front, Stepping.holds_last, Stepping.moved}
+use Rattle.sim_system.specs.RigWords.{systems_by as rig_by}
 
 pub finish-requires : goal.finish-requires
 finish-requires g c = holds_last HaveKinds (λ x. systems_on x.board (λ i v. (goal.System-dyn g (i, v)).meaning v)) c.loop-client.clients.items

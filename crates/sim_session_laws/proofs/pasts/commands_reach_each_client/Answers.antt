@@ -1,6 +1,6 @@
-use Rattle.sim_session_laws.proofs.{Fitting.always, PastFacts.none_behind_release}
 use Rattle.sim_session_laws.proofs.Common.{BehindStateAreKept, ComingAreAboveRelease, KeptAreOfPlayers, KeptAreTurns, KnownAndComingAreKept, NoneBehindRelease}
-use Rattle.sim_session_laws.proofs.PastFacts.{behind_state_are_kept, coming_are_above_release, kept_are_of_players, kept_are_turns, known_and_coming_are_kept}
+use Rattle.sim_session_laws.proofs.Fitting.{always, behind_state_are_kept, coming_are_above_release, kept_are_of_players, kept_are_turns}
+use Rattle.sim_session_laws.proofs.Fitting.{known_and_coming_are_kept, none_behind_release}
 
 pub returns : Rattle.sim_session_laws.proofs.pasts.commands_reach_each_client.Goals.returns
 returns c =

@@ -1,4 +1,4 @@
-use Rattle.sim_session_laws.proofs.{Common.UnbentAgree, Common.UnbentAreKept, Fitting.always, PastFacts.unbent_agree, PastFacts.unbent_are_kept}
+use Rattle.sim_session_laws.proofs.{Common.UnbentAgree, Common.UnbentAreKept, Fitting.always, Fitting.unbent_agree, Fitting.unbent_are_kept}
 
 pub returns : Rattle.sim_session_laws.proofs.pasts.unbent_clients_agree.Goals.returns
 returns c =

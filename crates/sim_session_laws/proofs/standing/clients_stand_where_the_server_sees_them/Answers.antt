@@ -1,6 +1,5 @@
 use Rattle.sim_session_laws.proofs.Common.{InHasState, OffIsOut, OnIsIn, OutHasWish, StrangersAreOut, WaitingHasDonor}
-use Rattle.sim_session_laws.proofs.Fitting.{always}
-use Rattle.sim_session_laws.proofs.StandingFacts.{in_has_state, off_is_out, on_is_in, out_has_wish, strangers_are_out, waiting_has_donor}
+use Rattle.sim_session_laws.proofs.Fitting.{always, in_has_state, off_is_out, on_is_in, out_has_wish, strangers_are_out, waiting_has_donor}
 
 pub returns : Rattle.sim_session_laws.proofs.standing.clients_stand_where_the_server_sees_them.Goals.returns
 returns c =

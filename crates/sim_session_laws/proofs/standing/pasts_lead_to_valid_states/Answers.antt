@@ -1,5 +1,5 @@
-use Rattle.sim_session_laws.proofs.{Common.KnownAreOfPlayers, Common.StatesHaveTurns, Fitting.always, StandingFacts.states_have_turns}
-use Rattle.sim_session_laws.proofs.StandingFacts.{heard_bytes_spell_a_state, known_are_of_players, no_state_is_ever_refused, pasts_are_always_valid}
+use Rattle.sim_session_laws.proofs.Fitting.{always, heard_bytes_spell_a_state, known_are_of_players, no_state_is_ever_refused, pasts_are_always_valid}
+use Rattle.sim_session_laws.proofs.{Common.KnownAreOfPlayers, Common.StatesHaveTurns, Fitting.states_have_turns}
 
 pub returns : Rattle.sim_session_laws.proofs.standing.pasts_lead_to_valid_states.Goals.returns
 returns c =

@@ -1,5 +1,5 @@
-use Rattle.sim_session_laws.proofs.{Common.DonesAreCounted, Common.DonesAreNear, Common.DonesAreTurns, Common.DonesGoOn, Common.StateHasDone, Fitting.always}
-use Rattle.sim_session_laws.proofs.TurnNumberFacts.{dones_are_counted, dones_are_near, dones_are_turns, dones_go_on, state_has_done}
+use Rattle.sim_session_laws.proofs.Common.{DonesAreCounted, DonesAreNear, DonesAreTurns, DonesGoOn, StateHasDone}
+use Rattle.sim_session_laws.proofs.Fitting.{always, dones_are_counted, dones_are_near, dones_are_turns, dones_go_on, state_has_done}
 
 pub returns : Rattle.sim_session_laws.proofs.turn_numbers.dones_are_accepted.Goals.returns
 returns c =

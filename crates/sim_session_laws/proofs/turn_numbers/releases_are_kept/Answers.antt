@@ -1,6 +1,6 @@
-use Rattle.sim_session_laws.proofs.{Final.released_are_final, Final.released_only_rise, Fitting.always}
 use Rattle.sim_session_laws.proofs.Common.{CarriedAreReleased, ReleasedAreTurns, ReleasesAreReleased, StampsAreTurns, TurnsAreReleased}
-use Rattle.sim_session_laws.proofs.TurnNumberFacts.{carried_are_released, released_are_turns, releases_are_released, stamps_are_turns, turns_are_released}
+use Rattle.sim_session_laws.proofs.Fitting.{always, carried_are_released, released_are_final, released_are_turns, released_only_rise, releases_are_released}
+use Rattle.sim_session_laws.proofs.Fitting.{stamps_are_turns, turns_are_released}
 
 pub returns : Rattle.sim_session_laws.proofs.turn_numbers.releases_are_kept.Goals.returns
 returns c =

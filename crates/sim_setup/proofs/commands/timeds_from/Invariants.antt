@@ -1,13 +1,12 @@
 use Rattle.sim_setup.proofs.Common.{◌≡◌, [], map, length, numbered, Tallies, timed_of, view}
 use Rattle.sim_setup.specs.Crowds.{Covers}
-use Rattle.sim_setup.proofs.commands.timeds_from.Given as goal
 
-abbrev pub invariant-loop-rest : goal.invariant-loop-rest
+abbrev pub invariant-loop-rest : Rattle.sim_setup.proofs.commands.timeds_from.Given.invariant-loop-rest
 invariant-loop-rest l = record {
   same : numbered (timed_of l.turns l.players) l.found.items (map view l.rest) ≡ numbered (timed_of l.turns l.players) [] (map view l.items);
   tallies : Tallies l.crowd l.found.items;
   covers : Covers l.crowd l.turns;
 }
 
-abbrev pub decreases-loop-rest : goal.decreases-loop-rest
+abbrev pub decreases-loop-rest : Rattle.sim_setup.proofs.commands.timeds_from.Given.decreases-loop-rest
 decreases-loop-rest l = length l.rest

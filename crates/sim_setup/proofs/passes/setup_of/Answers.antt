@@ -1,4 +1,4 @@
-use Rattle.sim_setup.proofs.{Common.Meets, Common.rules, Common.setup_of as setup_of_bytes, SetupLimits.meets-limits}
+use Rattle.sim_setup.proofs.{Common.Meets, Common.rules, Common.setup_of as setup_of_bytes, LandLimits.meets-limits}
 
 pub returns-clause-limits : Rattle.sim_setup.proofs.passes.setup_of.Goals.returns-clause-limits
 returns-clause-limits c =

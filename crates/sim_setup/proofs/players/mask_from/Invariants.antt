@@ -1,8 +1,7 @@
 use Rattle.sim_setup.proofs.Common.{◌≡◌, map, length, mask_from, view}
-use Rattle.sim_setup.proofs.players.mask_from.Given as goal
 
-abbrev pub invariant-loop-rest : goal.invariant-loop-rest
+abbrev pub invariant-loop-rest : Rattle.sim_setup.proofs.players.mask_from.Given.invariant-loop-rest
 invariant-loop-rest l = mask_from l.players l.player l.mask (map view l.rest) ≡ mask_from l.players l.player 0 (map view l.items)
 
-abbrev pub decreases-loop-rest : goal.decreases-loop-rest
+abbrev pub decreases-loop-rest : Rattle.sim_setup.proofs.players.mask_from.Given.decreases-loop-rest
 decreases-loop-rest l = length l.rest

@@ -1,6 +1,5 @@
 -- Pairs within the limits make stocks within the limits.
-use Rattle.sim_stock.proofs.Common.{All, ap, IsRate, IsStart, opening, subst, sym, ◌∙◌}
-use Rattle.sim_stock.proofs.RateLimits.{opening_start}
+use Rattle.sim_stock.proofs.{Balances.opening_start, Common.All, Common.IsRate, Common.IsStart, Common.ap, Common.opening, Common.subst, Common.sym, Common.◌∙◌}
 
 pub returns-clause-limits : Rattle.sim_stock.proofs.amounts.start_in.Goals.returns-clause-limits
 returns-clause-limits c =

@@ -1,9 +1,8 @@
 -- The deeds so far, which ascend.
 use Rattle.sim_stock.proofs.Common.{◌≡◌, [], map, length, All, dated_of, earliest, IsDated, numbered, view}
 use Rattle.sim_stock.proofs.Runs.{IsRun}
-use Rattle.sim_stock.proofs.reading.deeds_from.Given as goal
 
-abbrev pub invariant-loop-rest : goal.invariant-loop-rest
+abbrev pub invariant-loop-rest : Rattle.sim_stock.proofs.reading.deeds_from.Given.invariant-loop-rest
 invariant-loop-rest l = record {
   same : numbered (λ done. dated_of l.players l.turns (earliest done)) l.found.items (map view l.rest) ≡ numbered
       (λ done. dated_of l.players l.turns (earliest done)) [] (map view l.items);
@@ -11,5 +10,5 @@ invariant-loop-rest l = record {
   run : IsRun l.earliest l.found.items;
 }
 
-abbrev pub decreases-loop-rest : goal.decreases-loop-rest
+abbrev pub decreases-loop-rest : Rattle.sim_stock.proofs.reading.deeds_from.Given.decreases-loop-rest
 decreases-loop-rest l = length l.rest

@@ -1,10 +1,9 @@
 -- How much was given out where reading ended before the file did.
-use Rattle.std.proofs.Common.{◌≡◌, ◌+◌, length, Err, ap, arith, rules, subst, sym, ◌∙◌}
 use Rattle.sim_store.proofs.Given.{after_giving-after_giving, KeepsFiles-trans}
-use Rattle.sim_store.specs.{Counts.after_giving, Reading.ReadsUp, declared.fault.StoreFault.TheVariants.OutOfMemory}
-use Rattle.sim_store.proofs.read.read_rest.Goals as goal
+use Rattle.sim_store.specs.{Reading.ReadsUp, Shelf.after_giving, declared.fault.StoreFault.TheVariants.OutOfMemory}
+use Rattle.std.proofs.Common.{ap, arith, Err, length, rules, subst, sym, ◌+◌, ◌∙◌, ◌≡◌}
 
-pub returns-then-count-len-clause-reads : goal.returns-then-count-len-clause-reads
+pub returns-then-count-len-clause-reads : Rattle.sim_store.proofs.read.read_rest.Goals.returns-then-count-len-clause-reads
 returns-then-count-len-clause-reads g c = record {
   causes = (
     length c.pieces.bytes.items + c.in-Ok.count,
@@ -17,7 +16,7 @@ returns-then-count-len-clause-reads g c = record {
 }
 
 pub returns-in_err-extend_from_slice-clause-reads :
-    goal.returns-in_err-extend_from_slice-clause-reads
+    Rattle.sim_store.proofs.read.read_rest.Goals.returns-in_err-extend_from_slice-clause-reads
 returns-in_err-extend_from_slice-clause-reads g c =
     let is : c.from_residual.result ≡ Err OutOfMemory = search rules in
     subst (λ r. ReadsUp r g.S.Shelf c.args.shelf.now c.read.new.self) (sym is) (record {

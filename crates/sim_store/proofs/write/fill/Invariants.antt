@@ -1,9 +1,8 @@
 -- What the file holds so far is the beginning of the bytes, and nothing has failed.
 use Rattle.{sim_store.specs.Shelf.HeldSet, sim_store.specs.Shelf.KeepsReading, std.specs.Io.KnownBytes.Appends}
 use Rattle.std.proofs.Common.{◌≡◌, ◌-◌, ◌≤◌, length, take, IsTrue}
-use Rattle.sim_store.proofs.write.fill.Given as goal
 
-abbrev pub invariant-loop-done : goal.invariant-loop-done
+abbrev pub invariant-loop-done : Rattle.sim_store.proofs.write.fill.Given.invariant-loop-done
 invariant-loop-done g l = record {
   within : l.done ≤ length l.bytes;
   held : HeldSet (g.S.Shelf.made_name l.fn.shelf) (take l.done l.bytes) (g.S.Shelf.held l.fn.shelf) (g.S.Shelf.held l.shelf);
@@ -14,5 +13,5 @@ invariant-loop-done g l = record {
   reading : KeepsReading g.S.Shelf.is_open g.S.Shelf.rest l.fn.shelf l.shelf;
 }
 
-abbrev pub decreases-loop-done : goal.decreases-loop-done
+abbrev pub decreases-loop-done : Rattle.sim_store.proofs.write.fill.Given.decreases-loop-done
 decreases-loop-done g l = length l.bytes - l.done

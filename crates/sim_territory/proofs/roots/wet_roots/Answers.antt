@@ -1,9 +1,9 @@
 -- One mark more is looked at.
-use Rattle.sim_territory.proofs.Common.{IsOnGround, IsWetAt, Mark, roots_among, Size, subst, sum_at, sym, take_all, ◌∙◌}
-use Rattle.sim_territory.proofs.Common.{◌≡◌, ◌+◌, List, get_or, take, refl, All-get_or, Flood, ground_size, holder_by, is_root, is_root_under, IsMarkIn}
-use Rattle.sim_territory.proofs.Rooting.{AtRoots, root_is, roots_pass, roots_step}
-use Rattle.sim_territory.proofs.roots.wet_roots.Goals.{else-is_root, then-is_root+in_ok-wet}
 use Rattle.sim_territory.proofs.roots.wet_roots.Goals as goal
+use Rattle.sim_territory.proofs.Common.{All-get_or, Flood, get_or, ground_size, holder_by, is_root, is_root_under, IsMarkIn, IsOnGround, IsWetAt, List, Mark}
+use Rattle.sim_territory.proofs.Common.{refl, roots_among, Size, subst, sum_at, sym, take, take_all, ◌+◌, ◌∙◌, ◌≡◌}
+use Rattle.sim_territory.proofs.Flooding.{AtRoots, root_is, roots_pass, roots_step}
+use Rattle.sim_territory.proofs.roots.wet_roots.Goals.{else-is_root, then-is_root+in_ok-wet}
 
 -- what is read past the end
 abbrev no_mark : Mark

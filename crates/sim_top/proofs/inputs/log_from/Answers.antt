@@ -1,8 +1,7 @@
 -- Bytes that are no log are refused at a line.
-use Rattle.sim_replay.specs.{Logs.IsRefusedAt, declared.fault.LogFault.LogFault}
-use Rattle.sim_top.proofs.Common.{◌≡◌, ℕ, List, Ok, Err, Result, refl, ap, Log, rules, Setup, Stop, subst, sym}
-use Rattle.sim_top.specs.Stops.{log_stop, ReadsLog}
 use Rattle.sim_replay.specs.declared.fault.LogFault.TheVariants as logged
+use Rattle.sim_top.proofs.Common.{ap, Err, List, Log, Ok, refl, Result, rules, Setup, Stop, subst, sym, ℕ, ◌≡◌}
+use Rattle.{sim_replay.specs.Logs.IsRefusedAt, sim_replay.specs.declared.fault.LogFault.LogFault, sim_top.specs.Stops.ReadsLog, sim_top.specs.Stops.log_stop}
 
 refused_so : (fault : LogFault) (setup : Setup) (bytes : List ℕ) → ((line : ℕ) → fault ≡ logged.Refused line → IsRefusedAt setup bytes line)
     → ReadsLog (Err (log_stop fault)) setup (Ok bytes)

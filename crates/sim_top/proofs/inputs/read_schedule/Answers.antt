@@ -1,10 +1,8 @@
 -- The bytes of the file were read, or they were not read to their end.
-use Rattle.sim_lists.specs.Schedules.{IsSchedule}
-use Rattle.sim_top.{proofs.Counting.has_read, proofs.Counting.not_read, specs.Commands.HasRead}
-use Rattle.sim_top.proofs.Common.{◌≡◌, Err, IsOfList, Result, rules, Schedule, shelved, Stop, subst, sym}
-use Rattle.sim_top.proofs.inputs.read_schedule.Goals as goal
+use Rattle.sim_top.proofs.Common.{Err, IsOfList, Result, rules, Schedule, shelved, Stop, subst, sym, ◌≡◌}
+use Rattle.{sim_lists.specs.StepLists.IsSchedule, sim_top.proofs.Counting.has_read, sim_top.proofs.Counting.not_read, sim_top.specs.Commands.HasRead}
 
-pub returns-in_err-bytes-clause-read : goal.returns-in_err-bytes-clause-read
+pub returns-in_err-bytes-clause-read : Rattle.sim_top.proofs.inputs.read_schedule.Goals.returns-in_err-bytes-clause-read
 returns-in_err-bytes-clause-read g c =
     let is : c.from_residual.result ≡ Err c.in_err-bytes.field-0.0 = search rules in
     let before = shelved (g.S.Shelf.held c.args.shelf.now) (g.S.Shelf.counts c.args.shelf.now) in
@@ -13,7 +11,7 @@ returns-in_err-bytes-clause-read g c =
     (not_read IsSchedule IsOfList tt tt tt tt c.args.name.now c.in_err-bytes.field-0.0 before now c.in_err-bytes.ensures.causes c.in_err-bytes.ensures.missing
     c.read_bytes.ensures.held)
 
-pub returns-clause-read : goal.returns-clause-read
+pub returns-clause-read : Rattle.sim_top.proofs.inputs.read_schedule.Goals.returns-clause-read
 returns-clause-read g c =
     has_read IsSchedule IsOfList c.args.name.now c.in_ok-bytes.bytes.items c.schedule_from.result _ _ c.schedule_from.ensures.parsed
     c.in_ok-bytes.ensures.causes

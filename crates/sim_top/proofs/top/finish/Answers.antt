@@ -1,7 +1,7 @@
 -- The file was saved, and then the text told or cut short; or the file could not be saved, which the shelf counted.
-use Rattle.sim_top.proofs.{Ending.told_may_end, Ending.told_settled, Finishing.all_told, Finishing.told_causes, Finishing.told_meets}
-use Rattle.sim_top.proofs.Common.{ℕ, List, string_bytes, option_map, Counts, CountsBefore, file_of, Meets, MeetsBefore, scene, subst, sym, Tells}
 use Rattle.sim_top.proofs.top.finish.Goals as goal
+use Rattle.sim_top.proofs.Common.{Counts, CountsBefore, file_of, List, Meets, MeetsBefore, option_map, scene, string_bytes, subst, sym, Tells, ℕ}
+use Rattle.sim_top.proofs.Finishing.{all_told, told_causes, told_may_end, told_meets, told_settled}
 
 pub returns-in-Ok-clause-answers : goal.returns-in-Ok-clause-answers
 returns-in-Ok-clause-answers g c =

@@ -6,19 +6,19 @@ use Rattle.sim_top.specs.declared.words.Request.{Request}
 use Rattle.sim_top.proofs.top.made_answer.Goals as goal
 
 pub returns-in-Ok-clause-answer : goal.returns-in-Ok-clause-answer
-returns-in-Ok-clause-answer g c = of_answer (words_of c.args.words.now) (asked c.in-Some.request) c.in-Some.ensures.asked _ _ c.in-Ok.answer
+returns-in-Ok-clause-answer g c = of_answer (words_of c.args.words.now) (asked c.in-Some.request) c.in-Some.ensures.same _ _ c.in-Ok.answer
     c.in-Ok.ensures.answer
 
 pub returns-in-Ok-clause-back : goal.returns-in-Ok-clause-back
 returns-in-Ok-clause-back g c =
     subst (λ (o : Option Asked). RigsCameBackBy (λ i v. (goal.System-dyn g (i, v)).meaning v) o (g.S.Shelf.held c.args.shelf.now) c.in-Ok.answer.status
-    c.args.equipment.now.rigs c.answer_to.new.self.rigs) c.in-Some.ensures.asked c.in-Ok.ensures.back
+    c.args.equipment.now.rigs c.answer_to.new.self.rigs) c.in-Some.ensures.same c.in-Ok.ensures.back
 
 pub returns-in-Err-clause-answer : goal.returns-in-Err-clause-answer
 returns-in-Err-clause-answer g c =
     let made = c.answered-in-Err.result in
     let text = string_bytes made.text in
-    of_ended (words_of c.args.words.now) (asked c.in-Some.request) c.in-Some.ensures.asked _ _ c.in-Err.stop made.status text made.saved c.stop_text.result
+    of_ended (words_of c.args.words.now) (asked c.in-Some.request) c.in-Some.ensures.same _ _ c.in-Err.stop made.status text made.saved c.stop_text.result
     (subst (λ (s : Status). IsAnswered made.status text s c.stop_text.result) c.status.ensures c.answered-in-Err.ensures.answer) c.answered-in-Err.ensures.saved
     c.stop_text.ensures.text c.stop_text.ensures.silent
     c.in-Err.ensures.answer
@@ -34,7 +34,7 @@ returns-in-Err-clause-back g c =
     (answered_settled (status_of c.in-Err.stop) made.status text c.stop_text.result (subst (λ (s : Status). IsAnswered made.status text s c.stop_text.result)
     c.status.ensures c.answered-in-Err.ensures.answer))
     (subst (λ (o : Option Asked). RigsCameBackBy (λ i v. (goal.System-dyn g (i, v)).meaning v) o held (status_of c.in-Err.stop) c.args.equipment.now.rigs
-    c.answer_to.new.self.rigs) c.in-Some.ensures.asked c.in-Err.ensures.back)
+    c.answer_to.new.self.rigs) c.in-Some.ensures.same c.in-Err.ensures.back)
 
 -- words that are in no table make no request, and use no rig
 none_asked : (request : Option Request) (wanted : Option Asked) → ((r : Request) → request ≡ Some r → ⊥) → option_map asked request ≡ wanted → wanted ≡ None
@@ -45,11 +45,11 @@ pub returns-in_default-clause-answer : goal.returns-in_default-clause-answer
 returns-in_default-clause-answer g c =
     let made = c.answered.result in
     of_unasked (words_of c.args.words.now) (none_asked c.request_of.result (asked_by (words_of c.args.words.now)) c.in_default.not-Some
-    c.request_of.ensures.asked) _ made.status (string_bytes made.text)
+    c.request_of.ensures.same) _ made.status (string_bytes made.text)
     made.saved c.usage_text.result c.answered.ensures.answer c.answered.ensures.saved c.usage_text.ensures
 
 pub returns-in_default-clause-back : goal.returns-in_default-clause-back
 returns-in_default-clause-back g c =
     rigs_same (λ i v. (goal.System-dyn g (i, v)).meaning v) (asked_by (words_of c.args.words.now)) (g.S.Shelf.held c.args.shelf.now) c.answered.result.status
     c.args.equipment.now.rigs c.requires.eight
-    (λ ended. ap used (none_asked c.request_of.result (asked_by (words_of c.args.words.now)) c.in_default.not-Some c.request_of.ensures.asked))
+    (λ ended. ap used (none_asked c.request_of.result (asked_by (words_of c.args.words.now)) c.in_default.not-Some c.request_of.ensures.same))

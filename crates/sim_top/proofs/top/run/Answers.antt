@@ -1,14 +1,11 @@
 -- The shelf holds the same before anything is written, and the rigs are those of the command.
-use Rattle.sim_top.proofs.{Balances.balances_told, Completeness.final, Returning.rigs_later, Stopping.Told, Stopping.Told-both, Territories.territories_told}
-use Rattle.sim_top.proofs.{Ending.given_settled, Ending.told_unfound, Ending.told_usage, Films.film_told, Headlines.lawful, Headlines.of_both, Headlines.of_end}
-use Rattle.sim_top.proofs.{Logging.logs_told, Parts.parts_told, Sights.sights_told}
-use Rattle.sim_top.proofs.Common.{IsFaultless, IsFinal, IsHostedBy, IsReady, Meets, MeetsBefore, OfFilm, OfParts, OfRealm, OfSession, OfStock, PartsTold, scene}
-use Rattle.sim_top.proofs.Common.{List, IfSome, string_bytes, Option, option_map, asked_by, Balances, Causes, File, file_of, Film, HasEnded, Headline}
-use Rattle.sim_top.proofs.Common.{Setup, StepList, subst, TellsLogs, TellsSights, Territories, usage_text, words_of, ◌∙◌}
 use Rattle.sim_top.proofs.top.run.Goals as goal
-
-pub made_answer-answer-requires : goal.made_answer-answer-requires
-made_answer-answer-requires g c = record { eight = record { count = c.requires.eight; kinds = c.requires.kinds }; cleared = c.requires.cleared }
+use Rattle.sim_top.proofs.Common.{Meets, MeetsBefore, OfFilm, OfParts, OfRealm, OfSession, OfStock, Option, option_map, PartsTold, scene, Setup, StepList}
+use Rattle.sim_top.proofs.Common.{asked_by, Balances, Causes, File, file_of, Film, HasEnded, Headline, IfSome, IsFaultless, IsFinal, IsHostedBy, IsReady, List}
+use Rattle.sim_top.proofs.{Balances.balances_told, Common.TellsLogs, Common.TellsSights, Common.Territories, Common.string_bytes, Common.subst}
+use Rattle.sim_top.proofs.{Common.usage_text, Common.words_of, Common.◌∙◌, Completeness.final, Completeness.territories_told, Films.film_told}
+use Rattle.sim_top.proofs.{Finishing.given_settled, Finishing.told_unfound, Finishing.told_usage, Headlines.lawful, Headlines.of_both, Headlines.of_end}
+use Rattle.sim_top.proofs.{Logging.logs_told, Parts.parts_told, Returning.rigs_later, Sights.sights_told, Stopping.Told, Stopping.Told-both}
 
 pub returns-clause-answers : goal.returns-clause-answers
 returns-clause-answers g c =

@@ -1,4 +1,4 @@
-use Rattle.sim_trail.proofs.Summing.{sum_follows}
+use Rattle.sim_trail.proofs.Merging.{sum_follows}
 
 pub returns : Rattle.sim_trail.proofs.laws.sums_follow_the_shifts.Goals.returns
 returns c = sum_follows

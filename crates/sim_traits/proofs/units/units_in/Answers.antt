@@ -1,9 +1,9 @@
-use Rattle.{sim_tree.specs.Tokens.is_word, std.proofs.lemmas.Iterator.Splits.YieldsList-from_str_split, std.proofs.lemmas.List.map-append, std.specs.Borrow.Bor}
-use Rattle.std.proofs.Common.{◌≡◌, ℕ, true, false, List, [], ◌∷◌, map, length, Ok, filter, ap, lit<, sym, ◌∙◌}
-use Rattle.std.proofs.lemmas.Iterator.Consumers.{YieldsList-at, YieldsList-end, YieldsList-so_far, YieldsList-turn}
-use Rattle.sim_traits.proofs.Counted.{counted_part, numbers_of_counted, numbers_within, refused_part}
-use Rattle.sim_traits.specs.Units.{is_admitted, numbers_in}
 use Rattle.sim_traits.proofs.units.units_in.Goals as goal
+use Rattle.sim_traits.proofs.Counted.{counted_part, numbers_of_counted, numbers_within, refused_part}
+use Rattle.std.proofs.Common.{[], ap, false, filter, length, List, lit<, map, Ok, sym, true, ℕ, ◌∙◌, ◌∷◌, ◌≡◌}
+use Rattle.std.proofs.lemmas.Iterator.Consumers.{YieldsList-at, YieldsList-end, YieldsList-so_far, YieldsList-turn}
+use Rattle.std.{proofs.lemmas.Iterator.Splits.YieldsList-from_str_split, proofs.lemmas.List.map-append, specs.Borrow.Bor}
+use Rattle.{sim_traits.specs.Values.is_admitted, sim_traits.specs.Values.numbers_in, sim_tree.specs.Tokens.is_word}
 
 -- the part is refused, so the whole text is
 pub returns-then-not-branch-clause-value : goal.returns-then-not-branch-clause-value

@@ -1,7 +1,7 @@
-use Rattle.sim_tree.proofs.{Common.node_in, Common.node_of, Common.rules, Common.subst, Common.view, Common.◌∙◌, Forms.kind_ok, Forms.named-more}
-use Rattle.sim_tree.proofs.Ascends.{all_sound-push, ascends, ascends-more, ascends_skip, keys_in, name_of, sorted_ascends, sound_children}
-use Rattle.sim_tree.proofs.Common.{◌≡◌, ℕ, true, List, [], ◌++◌, map, string_bytes, ap, append-nil, is_child_key, is_node, members_view, named_in, named_of}
 use Rattle.sim_tree.proofs.nodes.+node.Goals as goal
+use Rattle.sim_tree.proofs.Ascends.{all_sound-push, ascends, ascends-more, ascends_skip, keys_in, kind_ok, name_of, named-more, sorted_ascends, sound_children}
+use Rattle.sim_tree.proofs.Common.{[], ap, append-nil, is_child_key, is_node, List, map, members_view, named_in, named_of, node_in, node_of, rules}
+use Rattle.sim_tree.proofs.Common.{string_bytes, subst, true, view, ℕ, ◌++◌, ◌∙◌, ◌≡◌}
 
 pub read_children-loop-key-init : goal.read_children-loop-key-init
 read_children-loop-key-init t c =

@@ -1,8 +1,7 @@
-use Rattle.sim_tree.proofs.Ascends.{all_sound-push, ascends, ascends-more, ascends_skip, keys_in, name_of, sorted_ascends, sound_children}
-use Rattle.sim_tree.proofs.Common.{named_of, node_in, node_of, rules, subst, view, ◌∙◌}
-use Rattle.sim_tree.proofs.Common.{◌≡◌, ℕ, true, List, [], ◌++◌, map, string_bytes, ap, append-nil, is_child_key, is_node, is_root_key, members_view, named_in}
-use Rattle.sim_tree.proofs.Forms.{kind_ok, named-more, root_key_alone}
 use Rattle.sim_tree.proofs.source.root_children.Goals as goal
+use Rattle.sim_tree.proofs.Ascends.{all_sound-push, ascends, ascends-more, ascends_skip, keys_in, kind_ok, name_of, named-more, root_key_alone, sorted_ascends}
+use Rattle.sim_tree.proofs.Common.{[], ap, append-nil, is_child_key, is_node, is_root_key, List, map, members_view, named_in, named_of, node_in, node_of, rules}
+use Rattle.sim_tree.proofs.{Ascends.sound_children, Common.string_bytes, Common.subst, Common.true, Common.view, Common.ℕ, Common.◌++◌, Common.◌∙◌, Common.◌≡◌}
 
 pub loop-key-init : goal.loop-key-init
 loop-key-init c =

@@ -1,6 +1,6 @@
 -- One soldier more takes two steps more.
-use Rattle.sim_trial.proofs.Common.{◌≡◌, ℕ, suc, ◌+◌, ◌*◌, false, ◌++◌, nat_lt, string_bytes, refl, ap, arith, next_word, soldier_text, word_after, ◌∙◌}
-use Rattle.sim_trial.proofs.Pieces.{pieces_more}
+use Rattle.sim_trial.proofs.Common.{ap, arith, false, nat_lt, next_word, refl, soldier_text, string_bytes, suc, word_after, ℕ, ◌*◌, ◌++◌, ◌+◌, ◌∙◌, ◌≡◌}
+use Rattle.sim_trial.proofs.OwnedSoldiers.{pieces_more}
 
 pub loop-place-preserved : Rattle.sim_trial.proofs.soldiers.push_soldiers.Goals.loop-place-preserved
 loop-place-preserved c =

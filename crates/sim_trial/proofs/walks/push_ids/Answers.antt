@@ -1,13 +1,12 @@
 -- One id more, and in the end all of them.
-use Rattle.sim_trial.proofs.{Common.range_with_len, Common.sym, Common.◌∙◌, OwnedSoldiers.id_texts-is, Pieces.pieces_more}
-use Rattle.sim_trial.proofs.Common.{◌≡◌, ℕ, ◌+◌, ◌-◌, false, List, ◌++◌, map, nat_lt, string_bytes, decimal, ap, arith, id_at, joined_after, nat_tests}
-use Rattle.sim_trial.proofs.walks.push_ids.Goals as goal
+use Rattle.sim_trial.proofs.Common.{ap, arith, decimal, false, id_at, joined_after, List, map, nat_lt, nat_tests, range_with_len, string_bytes, sym, ℕ, ◌++◌}
+use Rattle.sim_trial.proofs.{Common.◌+◌, Common.◌-◌, Common.◌∙◌, Common.◌≡◌, OwnedSoldiers.id_texts-is, OwnedSoldiers.pieces_more}
 
 -- one number is below another where there is a gap between them
 gap : (a b : ℕ) → nat_lt a b ≡ nat_lt 0 (b - a)
 gap a b = grind (arith, nat_tests)
 
-pub loop-place-preserved : goal.loop-place-preserved
+pub loop-place-preserved : Rattle.sim_trial.proofs.walks.push_ids.Goals.loop-place-preserved
 loop-place-preserved c =
     let from = c.args.from in
     let place = c.loop-place.place in
@@ -19,7 +18,7 @@ loop-place-preserved c =
     c.in_ok-push_comma.ensures added
     ∙ ap (λ (n : ℕ). string_bytes c.args.text.now ++ joined_after false (map piece (range_with_len from n))) count
 
-pub returns : goal.returns
+pub returns : Rattle.sim_trial.proofs.walks.push_ids.Goals.returns
 returns c =
     let from = c.args.from in
     let piece = λ (k : ℕ). decimal (id_at c.args.player k) in

@@ -1,10 +1,9 @@
 -- One command more, and in the end all of them.
-use Rattle.sim_trial.proofs.{Common.sym, Common.walk_text, Common.◌∙◌, OwnedSoldiers.group_walk, OwnedSoldiers.owned_by, OwnedSoldiers.walks_of-is}
-use Rattle.sim_trial.proofs.{Pieces.pieces_more, walks.push_walks.Goals.else-begun, walks.push_walks.Goals.then-begun}
-use Rattle.sim_trial.proofs.Common.{◌≡◌, ℕ, ◌*◌, ◌||◌, List, ◌++◌, map, nat_lt, string_bytes, ap, arith, div_ceil, ids_between, joined_after, range_with_len}
-use Rattle.sim_trial.proofs.walks.push_walks.Goals as goal
+use Rattle.sim_trial.proofs.Common.{ap, arith, div_ceil, ids_between, joined_after, List, map, nat_lt, range_with_len, string_bytes, sym, walk_text, ℕ, ◌*◌}
+use Rattle.sim_trial.proofs.{Common.◌++◌, Common.◌||◌, Common.◌∙◌, Common.◌≡◌, OwnedSoldiers.group_walk, OwnedSoldiers.owned_by, OwnedSoldiers.pieces_more}
+use Rattle.sim_trial.proofs.{OwnedSoldiers.walks_of-is, walks.push_walks.Goals.else-begun, walks.push_walks.Goals.then-begun}
 
-pub loop-group-preserved : goal.loop-group-preserved
+pub loop-group-preserved : Rattle.sim_trial.proofs.walks.push_walks.Goals.loop-group-preserved
 loop-group-preserved c =
     let group = c.loop-group.group in
     let piece = group_walk c.args.player (owned_by c.args.player c.args.units) in
@@ -15,7 +14,7 @@ loop-group-preserved c =
     c.min.ensures in
     pieces_more c.args.begun piece 0 group group (omega arith) _ _ _ _ _ c.loop-group.invariant counted c.in_ok-push_comma.ensures added
 
-pub returns : goal.returns
+pub returns : Rattle.sim_trial.proofs.walks.push_walks.Goals.returns
 returns c =
     let owned = owned_by c.args.player c.args.units in
     let piece = group_walk c.args.player owned in

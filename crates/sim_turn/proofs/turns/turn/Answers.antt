@@ -2,9 +2,8 @@
 use Rattle.sim_turn.proofs.Common.{ap, setup_in, State, state_in, ◌∙◌}
 use Rattle.sim_turn.proofs.Counting.{joined, joined_valid, orders_keep_turn, still_below}
 use Rattle.{sim_base.proofs.Lists.on_ok, sim_board.proofs.Keeping.kept_on}
-use Rattle.sim_turn.proofs.turns.turn.Goals as goal
 
-pub run_phases-requires : goal.run_phases-requires
+pub run_phases-requires : Rattle.sim_turn.proofs.turns.turn.Goals.run_phases-requires
 run_phases-requires g c =
     let setup = setup_in c.args.board.now in
     let state = state_in c.args.board.now in
@@ -15,7 +14,7 @@ run_phases-requires g c =
           (ap (λ (s : State). s.turn) obeyed.state ∙ orders_keep_turn setup state c.args.commands.now) c.requires.below;
     }
 
-pub returns : goal.returns
+pub returns : Rattle.sim_turn.proofs.turns.turn.Goals.returns
 returns g c =
     let setup = setup_in c.args.board.now in
     let state = state_in c.args.board.now in

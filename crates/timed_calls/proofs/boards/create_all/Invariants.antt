@@ -1,5 +1,4 @@
-use Rattle.sim_board.specs.BoardWords.{IsWholeBy}
-use Rattle.timed_calls.proofs.boards.create_all.Given as goal
+use Rattle.sim_board.specs.Boards.{IsWholeBy}
 
-abbrev pub invariant-loop-x : goal.invariant-loop-x
-invariant-loop-x g l = IsWholeBy l.board (λ i v. (goal.System-dyn g (i, v)).meaning v)
+abbrev pub invariant-loop-x : Rattle.timed_calls.proofs.boards.create_all.Given.invariant-loop-x
+invariant-loop-x g l = IsWholeBy l.board (λ i v. (Rattle.timed_calls.proofs.boards.create_all.Given.System-dyn g (i, v)).meaning v)

@@ -1,5 +1,4 @@
-use Rattle.sim_board.specs.BoardWords.{IsWholeBy}
-use Rattle.timed_calls.proofs.boards.create_column.Given as goal
+use Rattle.sim_board.specs.Boards.{IsWholeBy}
 
-abbrev pub invariant-loop-z : goal.invariant-loop-z
-invariant-loop-z g l = IsWholeBy l.board (λ i v. (goal.System-dyn g (i, v)).meaning v)
+abbrev pub invariant-loop-z : Rattle.timed_calls.proofs.boards.create_column.Given.invariant-loop-z
+invariant-loop-z g l = IsWholeBy l.board (λ i v. (Rattle.timed_calls.proofs.boards.create_column.Given.System-dyn g (i, v)).meaning v)

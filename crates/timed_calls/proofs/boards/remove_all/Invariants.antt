@@ -1,5 +1,4 @@
-use Rattle.sim_board.specs.BoardWords.{IsWholeBy}
-use Rattle.timed_calls.proofs.boards.remove_all.Given as goal
+use Rattle.sim_board.specs.Boards.{IsWholeBy}
 
-abbrev pub invariant-loop-id : goal.invariant-loop-id
-invariant-loop-id g l = IsWholeBy l.board (λ i v. (goal.System-dyn g (i, v)).meaning v)
+abbrev pub invariant-loop-id : Rattle.timed_calls.proofs.boards.remove_all.Given.invariant-loop-id
+invariant-loop-id g l = IsWholeBy l.board (λ i v. (Rattle.timed_calls.proofs.boards.remove_all.Given.System-dyn g (i, v)).meaning v)

@@ -1,8 +1,8 @@
 -- The hit that lands is added to the sum of its target.
-use Rattle.{sim_attack.proofs.Sums.fought_lands, sim_attack.proofs.Sums.hit_at, sim_attack.specs.Fights.AreTaken, std.proofs.lemmas.List.get_or_default}
-use Rattle.std.proofs.Common.{◌≡◌, ℕ, ◌+◌, ◌<◌, true, List, [], ◌∷◌, ◌++◌, length, get_or, set, Some, ap, arith, rules, subst, sym, ◌∙◌}
-use Rattle.sim_base.specs.{Filters.is_near, Hit.Hit, Hit.lands, Hit.resist_of, Hit.taken, Numbers.next_word, Rows.arms_of, Rows.row_of, declared.state.Row.Row}
-use Rattle.sim_plans.specs.Found.{found}
+use Rattle.sim_base.specs.{Commands.is_near, Places.next_word, Rows.arms_of, Rows.row_of, Turn.Hit, Turn.lands, Turn.resist_of, Turn.taken}
+use Rattle.std.proofs.Common.{[], ap, arith, get_or, length, List, rules, set, Some, subst, sym, true, ℕ, ◌++◌, ◌+◌, ◌<◌, ◌∙◌, ◌∷◌, ◌≡◌}
+use Rattle.{sim_attack.proofs.Sums.fought_lands, sim_attack.proofs.Sums.hit_at, sim_attack.specs.Fights.AreTaken, sim_base.specs.declared.state.Row.Row}
+use Rattle.{sim_plans.specs.Found.found, std.proofs.lemmas.List.get_or_default}
 
 pub returns-then-lands-clause-damage : Rattle.sim_attack.proofs.battle.Battle.fight.Goals.returns-then-lands-clause-damage
 returns-then-lands-clause-damage c =

@@ -1,5 +1,5 @@
-use Rattle.std.proofs.Common.{◌+◌, ◌<◌, length, get_or, Some, refl, arith, subst, sym}
-use Rattle.sim_attack.{proofs.Nearer.least_first, proofs.Nearer.nearer_more, specs.Nearest.StandsFor, specs.declared.aim.Candidate.Candidate}
+use Rattle.sim_attack.{proofs.Nearer.least_first, proofs.Nearer.nearer_more, specs.Finds.StandsFor, specs.declared.aim.Candidate.Candidate}
+use Rattle.std.proofs.Common.{arith, get_or, length, refl, Some, subst, sym, ◌+◌, ◌<◌}
 
 pub loop-id-preserved : Rattle.sim_attack.proofs.battle.Battle.nearest.Goals.loop-id-preserved
 loop-id-preserved c =

@@ -1,8 +1,7 @@
 -- The systems are built from the state, which is valid.
 use Rattle.{sim_board.proofs.Common.refl, sim_laws.proofs.Validity.valid_is_loose, std.proofs.lemmas.Result.err_from_is_err_and}
-use Rattle.sim_board.proofs.board.Board.adopt.Goals as goal
 
-pub returns-in_err-build : goal.returns-in_err-build
+pub returns-in_err-build : Rattle.sim_board.proofs.board.Board.adopt.Goals.returns-in_err-build
 returns-in_err-build g c =
     let built = c.in_err-build.ensures in
     let p = err_from_is_err_and c.from_residual.result c.from_residual.ensures.1 in
@@ -16,7 +15,7 @@ returns-in_err-build g c =
       setup = refl;
     })
 
-pub returns : goal.returns
+pub returns : Rattle.sim_board.proofs.board.Board.adopt.Goals.returns
 returns g c =
     let built = c.in_ok-build.ensures in
     record {

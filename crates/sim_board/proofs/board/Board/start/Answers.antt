@@ -1,8 +1,7 @@
 -- The state that is taken is the first one.
 use Rattle.{sim_board.proofs.Common.refl, sim_board.proofs.Common.sym, sim_board.proofs.Counting.built_same, std.proofs.lemmas.Result.err_from_is_err_and}
-use Rattle.sim_board.proofs.board.Board.start.Goals as goal
 
-pub returns-in_err-state : goal.returns-in_err-state
+pub returns-in_err-state : Rattle.sim_board.proofs.board.Board.start.Goals.returns-in_err-state
 returns-in_err-state g c =
     let p = err_from_is_err_and c.from_residual.result c.from_residual.ensures.1 in
     rw p.1 (record {
@@ -15,7 +14,7 @@ returns-in_err-state g c =
       setup = refl;
     })
 
-pub returns : goal.returns
+pub returns : Rattle.sim_board.proofs.board.Board.start.Goals.returns
 returns g c =
     let adopts = c.adopt.ensures in
     record {

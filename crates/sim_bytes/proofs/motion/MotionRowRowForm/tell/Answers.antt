@@ -1,6 +1,6 @@
 -- All pieces of a row have room in what gathers them.
-use Rattle.{sim_base.specs.Spelling.moving_bytes, sim_bytes.specs.Lengths.length-moving_bytes}
-use Rattle.{sim_bytes.specs.Telling.Tells, std.proofs.Common.◌≡◌, std.proofs.Common.[], std.proofs.Common.OnOk, std.proofs.Common.subst, std.proofs.Common.◌∙◌}
+use Rattle.std.proofs.Common.{[], subst, ◌∙◌, ◌≡◌}
+use Rattle.{sim_base.specs.Spelling.moving_bytes, sim_bytes.specs.Laws.length-moving_bytes, sim_bytes.specs.Telling.Tells, std.proofs.Common.OnOk}
 
 pub returns : Rattle.sim_bytes.proofs.motion.MotionRowRowForm.tell.Goals.returns
 returns g c =

@@ -1,16 +1,13 @@
 -- `closed` makes the handle at null, which owns nothing.
-use Rattle.{sim_c.proofs.Address.handle_in, sim_c.proofs.Address.word, sim_c.proofs.handle.Handle.closed.Statement.statement, std.proofs.Common.[]}
-use Rattle.std.{proofs.Common.◌∷◌, proofs.Common.lit<, proofs.Common.refl, proofs.raw_atomic.Walks.proved, specs.declared.option.Option.TheVariants.None}
-use base.Fml.{ftrue}
-use types.Kit.{‵, raw, ◌$◌, ◌∵◌, !, qed, done, drop, feq_i, suffices, group}
-use types.Run.{enter, lit, and_then, no_more, returns}
-use types.Part.{agg}
-use types.ByLocal.{alloc_all, pass_all, free_all, look_at, sets}
-use denote.RawPtr.{Ptr, null_ptr}
-use denote.Steps.{nothing}
-use denote.Triple.{Entry.on_entry, Walked.ends_at, Walked.says, Walked.walk_of}
 use Rattle.sim_c.specs.contracts.handle.Handle.closed as f
 use Rattle.sim_c.proofs.handle.Handle.closed.Code as code
+use Rattle.sim_c.proofs.{Address.handle_in, Address.word, handle.Handle.closed.Statement.statement}
+use Rattle.std.proofs.{Common.[], Common.lit<, Common.refl, Common.◌∷◌, raw_atomic.Walks.proved}
+use Rattle.std.specs.declared.option.Option.TheVariants.{None}
+use base.Fml.{ftrue}
+use denote.{RawPtr.Ptr, RawPtr.null_ptr, Steps.nothing, Triple.Entry.on_entry, Triple.Walked.ends_at, Triple.Walked.says, Triple.Walked.walk_of}
+use types.{ByLocal.alloc_all, ByLocal.free_all, ByLocal.look_at, ByLocal.pass_all, ByLocal.sets, Kit.!, Kit.done, Kit.drop, Kit.feq_i, Kit.group, Kit.qed}
+use types.{Kit.raw, Kit.suffices, Kit.‵, Kit.◌$◌, Kit.◌∵◌, Part.agg, Run.and_then, Run.enter, Run.lit, Run.no_more, Run.returns}
 
 pub closed_spec : {M : Type 1} → statement M
 closed_spec 𝓤 𝓛 𝓜 𝓡 wired =

@@ -1,29 +1,23 @@
 -- `into_kept` compares the address with null: the box that is owned at any other address tells that this may be done.
-use Rattle.sim_c.proofs.{Address.either, Address.handle_out, Address.K, Address.LZ, Address.R, Address.word, Address.Z, Parts.frees, Parts.pair}
-use Rattle.sim_c.{proofs.Parts.pair_fits, proofs.Parts.parts_in, proofs.handle.Handle.into_kept.Statement.statement, specs.contracts.handle.Handle.the_row as H}
-use Rattle.std.proofs.Common.{[], ◌++◌, ◌∙◌, ◌∷◌, ◌≡◌, ap, List, lit<, refl, subst, sym}
-use Rattle.std.proofs.{alloc.Calls.handle_tells, alloc.Shapes.after, cell.Inside.Good, option.Made.none_of, option.Made.Some-of, raw_atomic.Walks.proved_at}
-use Rattle.std.specs.{contracts.impls.GlobalAllocator.TheImpl.ghosts, declared.option.Option.TheVariants.None, declared.option.Option.TheVariants.Some}
-use Rattle.std_alloc.proofs.ResultValues.{and_tt}
-use mir.Val.{Val, vcons, vnil}
-use base.Logic.{SProp, ent, id⊢}
-use base.Fml.{ftrue}
-use prog.Wp.{WpFn}
-use contract.Running.{tables}
-use types.Kit.{‵, raw, ◌⊛◌, at_ret, ◌$◌, ◌∵◌, !, qed, move, keep, drop, split, join, fsplit, suffices, group, done, use0, use1}
-use types.Run.{stop, fld, lit, of_opd, bin, no_more, and_then, first, branches, exec, returns, enter}
-use types.ByLocal.{alloc_all, pass_all, free_all, look_at, get, get_in, sets, sets_last, env}
-use types.Part.{agg, sub, whole}
-use types.Match.{live}
-use denote.Exit.{yes}
-use denote.RattleType.{RattleType, owns}
-use denote.RawPtr.{Ptr, block_ptr, null_ptr, tests_null}
-use denote.Param.{layout}
-use denote.Signature.{types_at, type_at, plain}
-use denote.Steps.{nothing}
-use denote.Triple.Walked.{Stays, stay_dropped, walk_of, says, ends_at, Goes-dropped}
 use Rattle.sim_c.specs.contracts.handle.Handle.into_kept as f
 use Rattle.sim_c.proofs.handle.Handle.into_kept.Code as code
+use Rattle.sim_c.proofs.{Address.K, Address.LZ, Address.R, Address.Z, Address.either, Address.handle_out, Address.word, Parts.frees, Parts.pair}
+use Rattle.sim_c.{proofs.Parts.pair_fits, proofs.Parts.parts_in, proofs.handle.Handle.into_kept.Statement.statement, specs.contracts.handle.Handle.the_row as H}
+use Rattle.std.proofs.Common.{List, [], ap, lit<, refl, subst, sym, ◌++◌, ◌∙◌, ◌∷◌, ◌≡◌}
+use Rattle.std.proofs.{alloc.Calls.handle_tells, alloc.Shapes.after, cell.Inside.Good, option.Made.Some-of, option.Made.none_of, raw_atomic.Walks.proved_at}
+use Rattle.std.specs.{contracts.impls.GlobalAllocator.TheImpl.ghosts, declared.option.Option.TheVariants.None, declared.option.Option.TheVariants.Some}
+use Rattle.std_alloc.proofs.ResultValues.{and_tt}
+use base.{Fml.ftrue, Logic.SProp, Logic.ent, Logic.id⊢}
+use contract.Running.{tables}
+use denote.Triple.Walked.{stay_dropped, walk_of}
+use denote.{Exit.yes, Param.layout, RattleType.RattleType, RattleType.owns, RawPtr.Ptr, RawPtr.block_ptr, RawPtr.null_ptr, RawPtr.tests_null, Signature.plain}
+use denote.{Signature.type_at, Signature.types_at, Steps.nothing, Triple.Walked.Goes-dropped, Triple.Walked.Stays, Triple.Walked.ends_at, Triple.Walked.says}
+use mir.Val.{Val, vcons, vnil}
+use prog.Wp.{WpFn}
+use types.ByLocal.{alloc_all, env, free_all, get, get_in, look_at, pass_all, sets, sets_last}
+use types.Kit.{!, at_ret, done, drop, fsplit, group, join, keep, move, qed, raw, split, suffices, use0, use1, ‵, ◌$◌, ◌∵◌, ◌⊛◌}
+use types.Run.{of_opd, returns, stop}
+use types.{Match.live, Part.agg, Part.sub, Part.whole, Run.and_then, Run.bin, Run.branches, Run.enter, Run.exec, Run.first, Run.fld, Run.lit, Run.no_more}
 
 abbrev stayed : Stays f.ended.signature.params f.ended.kept
 stayed = (stay_dropped (plain (λ _. H)) yes, (stay_dropped (plain (λ _. Z)) yes, tt))

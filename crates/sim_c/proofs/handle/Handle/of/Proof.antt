@@ -1,25 +1,19 @@
 -- `of` moves the address of the box into the handle.
-use Rattle.std.proofs.{Common.[], Common.List, Common.refl, Common.subst, Common.sym, Common.◌++◌, Common.◌∷◌, raw_atomic.Walks.proved_at}
-use mir.Val.{Val}
-use base.Logic.{SProp, ent, id⊢}
-use base.Fml.{ftrue}
-use prog.Wp.{WpFn}
-use contract.Running.{tables}
-use types.Kit.{‵, raw, ◌⊛◌, ◌$◌, ◌∵◌, !, qed, keep, drop, split, join, fsplit, fpack, suffices, group, done}
-use types.Run.{stop, fld, of_opd, no_more, and_then, returns, enter}
-use types.ByLocal.{alloc_all, pass_all, free_all, look_at, get, get_in, sets}
-use types.Part.{agg, sub, whole}
-use denote.Exit.{yes}
-use denote.RattleType.{owns}
-use denote.RawPtr.{block_ptr}
-use denote.Signature.{types_at, plain}
-use denote.Steps.{nothing}
-use denote.Triple.Walked.{Stays, stay_dropped, walk_of, says, ends_at, Goes-dropped}
-use Rattle.std.specs.{contracts.impls.GlobalAllocator.TheImpl.ghosts, declared.alloc.Global.Global, declared.option.Option.TheVariants.Some}
-use Rattle.sim_c.proofs.Address.{K, Z, LZ, R, boxed, handle_in, word}
-use Rattle.sim_c.proofs.{handle.Handle.of.Statement.statement, Parts.pair, Parts.pair_fits, Parts.parts_out}
 use Rattle.sim_c.specs.contracts.handle.Handle.of as f
 use Rattle.sim_c.proofs.handle.Handle.of.Code as code
+use Rattle.sim_c.proofs.{Address.K, Address.LZ, Address.R, Address.Z, Address.boxed, Address.handle_in, Address.word, Parts.pair, Parts.pair_fits}
+use Rattle.sim_c.proofs.{Parts.parts_out, handle.Handle.of.Statement.statement}
+use Rattle.std.proofs.{Common.List, Common.[], Common.refl, Common.subst, Common.sym, Common.◌++◌, Common.◌∷◌, raw_atomic.Walks.proved_at}
+use Rattle.std.specs.{contracts.impls.GlobalAllocator.TheImpl.ghosts, declared.alloc.Global.Global, declared.option.Option.TheVariants.Some}
+use base.{Fml.ftrue, Logic.SProp, Logic.ent, Logic.id⊢}
+use contract.Running.{tables}
+use denote.Triple.Walked.{ends_at, says, stay_dropped, walk_of}
+use denote.{Exit.yes, RattleType.owns, RawPtr.block_ptr, Signature.plain, Signature.types_at, Steps.nothing, Triple.Walked.Goes-dropped, Triple.Walked.Stays}
+use mir.Val.{Val}
+use prog.Wp.{WpFn}
+use types.{ByLocal.alloc_all, ByLocal.free_all, ByLocal.get, ByLocal.get_in, ByLocal.look_at, ByLocal.pass_all, ByLocal.sets, Kit.!, Kit.done, Kit.drop}
+use types.{Kit.fpack, Kit.fsplit, Kit.group, Kit.join, Kit.keep, Kit.qed, Kit.raw, Kit.split, Kit.suffices, Kit.‵, Kit.◌$◌, Kit.◌∵◌, Kit.◌⊛◌, Part.agg}
+use types.{Part.sub, Part.whole, Run.and_then, Run.enter, Run.fld, Run.no_more, Run.of_opd, Run.returns, Run.stop}
 
 abbrev stayed : Stays f.ended.signature.params f.ended.kept
 stayed = (stay_dropped (plain (λ _. K)) yes, tt)

@@ -1,33 +1,23 @@
 -- `into_box` takes the struct apart, and calls what makes a box of the two parts.
-use Rattle.std.proofs.Common.{◌≡◌, List, [], ◌∷◌, ◌++◌, refl, sym, ap, subst}
-use mir.Syntax.{Args, a_type, dcons, dnil}
-use mir.Val.{Val, vptr}
-use mir.MapTy.{inst_fn}
-use base.Logic.{SProp, ent, id⊢}
-use base.Fml.{ftrue, flft}
-use prog.Wp.{WpFn}
-use types.Kit.{‵, raw, ◌⊛◌, some, later, at_ret, ◌$◌, ◌∵◌, !, qed, by, move}
-use types.Kit.{keep, drop, split, split3, join, fsplit, fjoin, pick, suffices, use1, await, rewrite, feq_i}
-use types.Run.{stop, fld, of_opd, no_more, and_then, first, blocks, exec, returns, enter}
-use types.ByLocal.{alloc_all, pass_all, free_all, look_at, get, get_in, sets, lands_last, env}
-use types.Part.{sub, whole}
-use contract.Monad.{fact}
-use contract.BorrowLft.{◌⊑◌}
-use contract.Running.{tables}
-use denote.Exit.{no}
-use denote.RattleType.{RattleType, owns}
-use denote.Signature.{types_at, plain}
-use denote.RawPtr.{block_ptr}
-use denote.Steps.{nothing, only}
-use denote.Param.{bounded, Laws.param_laws, layout, param}
-use denote.Triple.{Call.calls_at_last, Clauses.Lasts, Clauses.lasts, Spec.triple_of, Table.framed, Walked.stay_dropped, Walked.Stays, Walked.walk_of}
-use Rattle.std.proofs.{alloc.Calls.Goes-blank, alloc.Shapes.after, cell.Inside.Good, raw_atomic.Walks.leaves, raw_atomic.Walks.proved_at}
 use Rattle.std_alloc.proofs.BoxSteps.Form as box
-use Rattle.std_alloc.proofs.{boxed.Box.from_raw.Met.met, BoxSteps.Steps.box_in, BoxSteps.Steps.box_out}
 use Rattle.std_alloc.specs.contracts.boxed.Box.from_raw as made
-use Rattle.sim_c.proofs.{kept.Kept.into_box.Statement.statement, Parts.pair, Parts.pair_fits, Parts.Parts, Parts.parts_out}
-use Rattle.sim_c.specs.contracts.kept.Kept.into_box.{ended, clauses, Key.name}
 use Rattle.sim_c.proofs.kept.Kept.into_box.Code as code
+use Rattle.sim_c.proofs.{Parts.Parts, Parts.pair, Parts.pair_fits, Parts.parts_out, kept.Kept.into_box.Statement.statement}
+use Rattle.sim_c.specs.contracts.kept.Kept.into_box.{Key.name, clauses, ended}
+use Rattle.std.proofs.{Common.List, Common.[], Common.ap, Common.refl, Common.subst, Common.sym, Common.◌++◌, Common.◌∷◌, Common.◌≡◌, alloc.Calls.Goes-blank}
+use Rattle.std.proofs.{alloc.Shapes.after, cell.Inside.Good, raw_atomic.Walks.leaves, raw_atomic.Walks.proved_at}
+use Rattle.std_alloc.proofs.{BoxSteps.Steps.box_in, BoxSteps.Steps.box_out, boxed.Box.from_raw.Met.met}
+use base.{Fml.flft, Fml.ftrue, Logic.SProp, Logic.ent, Logic.id⊢}
+use contract.{BorrowLft.◌⊑◌, Monad.fact, Running.tables}
+use denote.Triple.{Table.framed, Walked.Stays, Walked.stay_dropped, Walked.walk_of}
+use denote.{Exit.no, Param.Laws.param_laws, Param.bounded, Param.layout, Param.param, RattleType.RattleType, RattleType.owns, RawPtr.block_ptr, Signature.plain}
+use denote.{Signature.types_at, Steps.nothing, Steps.only, Triple.Call.calls_at_last, Triple.Clauses.Lasts, Triple.Clauses.lasts, Triple.Spec.triple_of}
+use mir.{MapTy.inst_fn, Syntax.Args, Syntax.a_type, Syntax.dcons, Syntax.dnil, Val.Val, Val.vptr}
+use prog.Wp.{WpFn}
+use types.ByLocal.{alloc_all, env, free_all, get, get_in, lands_last, look_at, pass_all, sets}
+use types.Kit.{!, at_ret, await, by, drop, feq_i, fjoin, fsplit, join, keep, later, move, pick, qed, raw, rewrite, some, split, split3, suffices, use1, ‵, ◌$◌}
+use types.Run.{stop}
+use types.{Kit.◌∵◌, Kit.◌⊛◌, Part.sub, Part.whole, Run.and_then, Run.blocks, Run.enter, Run.exec, Run.first, Run.fld, Run.no_more, Run.of_opd, Run.returns}
 
 pub into_box_spec : {M : Type 1} → statement M
 into_box_spec 𝓤 𝓛 𝓜 𝓡 wired T A L LA g d drops_T drops_A allocator glue_T glue_A =

@@ -1,36 +1,23 @@
 -- `of` calls what takes the box apart, and puts the two parts that come back into the struct.
-use Rattle.std.proofs.Common.{◌≡◌, List, [], ◌∷◌, ◌++◌, refl, sym, ap, ◌∙◌, subst}
-use mir.Syntax.{Args, a_type, dcons, dnil}
-use mir.Raw.{raw as bare}
-use mir.Val.{Val, vstruct, of_list}
-use mir.MapTy.{inst_fn}
-use base.Logic.{SProp, ent, emp, never, id⊢, fst∗}
-use base.Fml.{ftrue, fsep, flft}
-use prog.Wp.{WpFn}
-use types.Logic.{sem}
-use types.Kit.{‵, raw, ◌⊛◌, some, later, ◌$◌, ◌∵◌, !, qed, by, move, keep, drop}
-use types.Kit.{split, split3, join, fsplit, fjoin, fpick, pick, suffices, use0, use1, await, rewrite, feq_l}
-use types.Run.{stop, fld, of_opd, no_more, and_then, returns, enter}
-use types.ByLocal.{alloc_all, pass_all, free_all, look_at, get, get_in, sets, lands_as}
-use types.Part.{agg, sub, whole}
-use contract.Monad.{fact, fact_i}
-use contract.Running.{tables}
-use denote.Exit.{no}
-use denote.RattleType.{RattleType, owns}
-use denote.Signature.{types_at, plain}
-use denote.Builtin.{RawPtr}
-use denote.RawPtr.{Ptr, block_ptr, null_ptr, ptr_val, in_a_block}
-use denote.Steps.{nothing, only, heard}
-use denote.Param.{bounded, Laws.param_laws, layout, param}
-use denote.Struct.Tuple.{Tuple}
-use denote.Triple.{Call.calls_at, Spec.triple_of, Table.framed, Walked.stay_dropped, Walked.Stays, Walked.walk_of}
-use Rattle.std.proofs.{alloc.Calls.Goes-blank, alloc.Calls.handle_tells, raw_atomic.Walks.leaves, raw_atomic.Walks.proved_at}
 use Rattle.std_alloc.proofs.BoxSteps.Form as box
-use Rattle.std_alloc.proofs.{boxed.Box.into_raw_with_allocator.Met.met, BoxSteps.Steps.box_in, BoxSteps.Steps.box_out}
 use Rattle.std_alloc.specs.contracts.boxed.Box.into_raw_with_allocator as apart
-use Rattle.sim_c.proofs.{kept.Kept.of.Statement.statement, Parts.boxed, Parts.frees, Parts.pair, Parts.pair_fits, Parts.parts_in}
-use Rattle.sim_c.specs.contracts.kept.Kept.of.{ended, clauses, Key.name}
 use Rattle.sim_c.proofs.kept.Kept.of.Code as code
+use Rattle.sim_c.proofs.{Parts.boxed, Parts.frees, Parts.pair, Parts.pair_fits, Parts.parts_in, kept.Kept.of.Statement.statement}
+use Rattle.sim_c.specs.contracts.kept.Kept.of.{Key.name, clauses, ended}
+use Rattle.std.proofs.Common.{List, [], ap, refl, subst, sym, ◌++◌, ◌∙◌, ◌∷◌, ◌≡◌}
+use Rattle.std.proofs.{alloc.Calls.Goes-blank, alloc.Calls.handle_tells, raw_atomic.Walks.leaves, raw_atomic.Walks.proved_at}
+use Rattle.std_alloc.proofs.{BoxSteps.Steps.box_in, BoxSteps.Steps.box_out, boxed.Box.into_raw_with_allocator.Met.met}
+use base.{Fml.flft, Fml.fsep, Fml.ftrue, Logic.SProp, Logic.emp, Logic.ent, Logic.fst∗, Logic.id⊢, Logic.never}
+use contract.{Monad.fact, Monad.fact_i, Running.tables}
+use denote.Triple.Walked.{walk_of}
+use denote.{Builtin.RawPtr, Exit.no, Param.Laws.param_laws, Param.bounded, Param.layout, Param.param, RattleType.RattleType, RattleType.owns, RawPtr.Ptr}
+use denote.{RawPtr.block_ptr, RawPtr.in_a_block, RawPtr.null_ptr, RawPtr.ptr_val, Signature.plain, Signature.types_at, Steps.heard, Steps.nothing, Steps.only}
+use denote.{Struct.Tuple.Tuple, Triple.Call.calls_at, Triple.Spec.triple_of, Triple.Table.framed, Triple.Walked.Stays, Triple.Walked.stay_dropped}
+use mir.{MapTy.inst_fn, Raw.raw as bare, Syntax.Args, Syntax.a_type, Syntax.dcons, Syntax.dnil, Val.Val, Val.of_list, Val.vstruct}
+use prog.Wp.{WpFn}
+use types.Kit.{!, await, by, drop, feq_l, fjoin, fpick, fsplit, join, keep, later, move, pick, qed, raw, rewrite, some, split, split3, suffices, use0, use1, ‵}
+use types.{ByLocal.alloc_all, ByLocal.free_all, ByLocal.get, ByLocal.get_in, ByLocal.lands_as, ByLocal.look_at, ByLocal.pass_all, ByLocal.sets, Kit.◌$◌}
+use types.{Kit.◌∵◌, Kit.◌⊛◌, Logic.sem, Part.agg, Part.sub, Part.whole, Run.and_then, Run.enter, Run.fld, Run.no_more, Run.of_opd, Run.returns, Run.stop}
 
 pub of_spec : {M : Type 1} → statement M
 of_spec 𝓤 𝓛 𝓜 𝓡 wired T A L LA g d drops_T drops_A allocator glue_T glue_A =

@@ -1,7 +1,7 @@
 -- What the first section says is what the rows say.
-use Rattle.sim_codec.proofs.{FirstSection.entries_fit, FirstSection.entries_of, FirstSection.same_count, FirstSection.same_length, TakenRows.length_read}
-use Rattle.sim_codec.proofs.Common.{length, ap, arith, count_by-le-length, passes, rules, template_in, ◌∙◌}
 use Rattle.sim_codec.proofs.stored.StoredRows.count.Goals as goal
+use Rattle.sim_codec.proofs.Common.{ap, arith, count_by-le-length, length, passes, rules, template_in, ◌∙◌}
+use Rattle.sim_codec.proofs.TakenRows.{entries_fit, entries_of, length_read, same_count, same_length}
 
 pub entities_in-entities-requires : goal.entities_in-entities-requires
 entities_in-entities-requires g c = entries_fit c.self.inside.templates.now c.self.inside.count c.self.inside.walk _ c.self.invariant c.bytes.ensures

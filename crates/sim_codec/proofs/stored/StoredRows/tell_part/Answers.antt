@@ -1,12 +1,11 @@
 -- What is read of one section is what the rows have there.
-use Rattle.{sim_codec.specs.Taken.parts_in, sim_codec.proofs.FirstSection.entries_fit, sim_codec.proofs.SectionRows.parts_read}
-use Rattle.sim_codec.proofs.Common.{◌≡◌, ap, filter_map, flat_map, OnOk, rules, subst, Tells, ◌∙◌}
-use Rattle.sim_codec.proofs.stored.StoredRows.tell_part.Goals as goal
+use Rattle.sim_codec.proofs.Common.{ap, filter_map, flat_map, OnOk, rules, subst, Tells, ◌∙◌, ◌≡◌}
+use Rattle.sim_codec.{proofs.TakenRows.entries_fit, proofs.TakenRows.parts_read, specs.Taken.parts_in}
 
-pub entities_in-entities-requires : goal.entities_in-entities-requires
+pub entities_in-entities-requires : Rattle.sim_codec.proofs.stored.StoredRows.tell_part.Goals.entities_in-entities-requires
 entities_in-entities-requires g c = entries_fit c.self.inside.templates.now c.self.inside.count c.self.inside.walk _ c.self.invariant c.bytes.ensures
 
-pub returns : goal.returns
+pub returns : Rattle.sim_codec.proofs.stored.StoredRows.tell_part.Goals.returns
 returns g c =
     let part = g.R.RowForm.in_row in
     let at = g.R.PartForm.part_at in

@@ -1,9 +1,8 @@
 -- The layers of one cell are set.
 use Rattle.sim_ground.proofs.Common.{◌≡◌, ℕ, ◌+◌, ◌*◌, ap, OpenCells, place_of, refl, ◌∙◌}
 use Rattle.sim_ground.proofs.Layers.{step_layers}
-use Rattle.sim_ground.proofs.cover.Cover.step.Goals as goal
 
-pub returns-then-before-after : goal.returns-then-before-after
+pub returns-then-before-after : Rattle.sim_ground.proofs.cover.Cover.step.Goals.returns-then-before-after
 returns-then-before-after c =
     let place : c.from.result * c.from-2.result + c.from-3.result ≡ place_of c.args.self.now.grid.size c.args.cell =
     ap (λ (n : ℕ). n * c.from-2.result + c.from-3.result) c.from.ensures ∙ ap (λ (n : ℕ). c.args.cell.z * n + c.from-3.result)
@@ -15,7 +14,7 @@ returns-then-before-after c =
       same = λ e. absurd (cc);
     }
 
-pub returns-else-before-after : goal.returns-else-before-after
+pub returns-else-before-after : Rattle.sim_ground.proofs.cover.Cover.step.Goals.returns-else-before-after
 returns-else-before-after c =
     let place : c.from.result * c.from-2.result + c.from-3.result ≡ place_of c.args.self.now.grid.size c.args.cell =
     ap (λ (n : ℕ). n * c.from-2.result + c.from-3.result) c.from.ensures ∙ ap (λ (n : ℕ). c.args.cell.z * n + c.from-3.result)

@@ -1,9 +1,8 @@
 -- One cell more is stepped on.
-use Rattle.sim_ground.proofs.{Layers.changes_nothing, Layers.row_may, Layers.row_steps, Stretches.row_none}
-use Rattle.sim_ground.proofs.cover.Cover.step_row.Goals.{else-step, then-step}
-use Rattle.sim_ground.proofs.Common.{◌≡◌, ℕ, arith, in_row, IsOnGround, refl, Size, subst, sym, ◌∙◌}
-use Rattle.sim_ground.specs.Covering.{Changes}
 use Rattle.sim_ground.proofs.cover.Cover.step_row.Goals as goal
+use Rattle.sim_ground.proofs.Common.{arith, in_row, IsOnGround, refl, Size, subst, sym, ℕ, ◌∙◌, ◌≡◌}
+use Rattle.sim_ground.proofs.Layers.{changes_nothing, row_may, row_none, row_steps}
+use Rattle.sim_ground.{proofs.cover.Cover.step_row.Goals.else-step, proofs.cover.Cover.step_row.Goals.then-step, specs.Covering.Changes}
 
 pub loop-x-init : goal.loop-x-init
 loop-x-init c = record {

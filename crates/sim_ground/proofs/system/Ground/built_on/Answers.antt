@@ -1,6 +1,6 @@
 -- What is kept is over the facts after the note, or over those before it.
-use Rattle.sim_ground.proofs.{Common.◌∙◌, Noted.few_to_turn, Noted.kept_same, Noted.kept_turned, Noted.may_turn, Noted.ok_holds}
 use Rattle.sim_ground.proofs.system.Ground.built_on.Goals as goal
+use Rattle.sim_ground.proofs.{Common.◌∙◌, Turning.few_to_turn, Turning.kept_same, Turning.kept_turned, Turning.may_turn, Turning.ok_holds}
 
 pub turn-requires-clause-there : goal.turn-requires-clause-there
 turn-requires-clause-there c =

@@ -1,5 +1,5 @@
 -- The labels that are kept are those of the open cells.
-use Rattle.sim_ground.proofs.{Common.Option, Common.option_map, Common.AreRegions, Common.Opened, Common.subst, Lending.regions_are}
+use Rattle.sim_ground.proofs.{Common.AreRegions, Common.Opened, Common.Option, Common.option_map, Common.subst, Mendable.regions_are}
 
 pub returns-in-Some : Rattle.sim_ground.proofs.system.Ground.regions.Goals.returns-in-Some
 returns-in-Some c =

@@ -1,5 +1,5 @@
 -- Where no obstruction comes or goes, the facts are the same.
-use Rattle.sim_ground.proofs.{Built.still_kept_on, Common.sym, Common.◌∙◌}
+use Rattle.sim_ground.proofs.{Common.sym, Common.◌∙◌, Turning.still_kept_on}
 
 pub invariant_of-self : Rattle.sim_ground.proofs.system.GroundSystem.on.Goals.invariant_of-self
 invariant_of-self c = record {

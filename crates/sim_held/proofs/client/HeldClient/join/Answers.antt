@@ -1,9 +1,8 @@
 -- The match stands, the stage is sound after the step, and what was refused memory is cut off.
 use Rattle.sim_client.{proofs.Standing.anyway, specs.Lives.joins}
 use Rattle.sim_held.proofs.{Common.life_at, Common.refl, Common.◌∙◌, Stepping.goes_steps}
-use Rattle.sim_held.proofs.client.HeldClient.join.Goals as goal
 
-pub invariant_of-self : goal.invariant_of-self
+pub invariant_of-self : Rattle.sim_held.proofs.client.HeldClient.join.Goals.invariant_of-self
 invariant_of-self c =
     let setup = c.self.inside.setup in
     let came = c.join-came in
@@ -13,7 +12,7 @@ invariant_of-self c =
       stage = c.settle.ensures.sound setup (anyway came.result (came.ensures.sound setup c.self.invariant.stage));
     }
 
-pub returns : goal.returns
+pub returns : Rattle.sim_held.proofs.client.HeldClient.join.Goals.returns
 returns c =
     let before = c.self.inside in
     let came = c.join-came in

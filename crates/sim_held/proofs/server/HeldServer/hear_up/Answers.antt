@@ -1,8 +1,8 @@
 -- What is said has frames, and waits behind the rest.
-use Rattle.sim_held.proofs.{Common.ap, Common.Ok, Common.◌++◌, Common.told_to, Common.refl, Common.subst, Common.sym, Common.◌∙◌, Serving.heard_by, Serving.own_after, Serving.own_still, Serving.ready_after}
-use Rattle.{sim_plain.specs.Messages.Heard, sim_pipes.proofs.Answering.have_frames}
-use Rattle.sim_held.specs.Servers.{AreSmall, waiting}
 use Rattle.sim_held.proofs.server.HeldServer.hear_up.Goals as goal
+use Rattle.sim_held.proofs.Common.{ap, Ok, refl, subst, sym, told_to, ◌++◌, ◌∙◌}
+use Rattle.sim_held.proofs.Serving.{heard_by, own_after, own_still, ready_after}
+use Rattle.{sim_held.specs.Servers.AreSmall, sim_held.specs.Servers.waiting, sim_pipes.proofs.Telling.have_frames, sim_plain.specs.Messages.Heard}
 
 pub invariant_of-self-in_err-posts : goal.invariant_of-self-in_err-posts
 invariant_of-self-in_err-posts c =

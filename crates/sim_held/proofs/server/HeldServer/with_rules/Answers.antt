@@ -1,6 +1,6 @@
 -- Nothing is kept, and nothing waits.
-use Rattle.sim_held.proofs.Common.{ap, rules, subst, sym}
-use Rattle.{sim_held.proofs.Common.All-nil, sim_held.specs.Servers.waiting, sim_plain.specs.declared.rules.Rules.Rules, sim_server.specs.Small.IsSmallServer}
+use Rattle.sim_held.{proofs.Common.All-nil, proofs.Common.ap, proofs.Common.rules, proofs.Common.subst, proofs.Common.sym, specs.Servers.waiting}
+use Rattle.{sim_plain.specs.declared.rules.Rules.Rules, sim_server.specs.Standing.IsSmallServer}
 
 pub invariant_of-result : Rattle.sim_held.proofs.server.HeldServer.with_rules.Goals.invariant_of-result
 invariant_of-result c = record {

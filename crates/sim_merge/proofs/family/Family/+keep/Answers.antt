@@ -1,8 +1,8 @@
-use Rattle.sim_merge.proofs.Common.{◌≡◌, suc, length, get_or, None, slice_get, ap, arith, chain_root, IfBadOp, inherited, is_resolved, members}
-use Rattle.sim_merge.proofs.Common.{node_of, origins_of, refused, roots_in, rules, sym, there, ◌∙◌}
-use Rattle.sim_merge.proofs.KeepingLemmas.{chain_root-first, chain_root-parent, chain_root-refused, IsKept-set, KeepsAll-set}
-use Rattle.sim_merge.proofs.{LayingLemmas.IfBadOp-weaker, ResolutionLemmas.members-parent, ResolvedLemmas.chain_root-resolved, ResolvedLemmas.there-resolved}
 use Rattle.sim_merge.proofs.family.Family.+keep.Goals as goal
+use Rattle.sim_merge.proofs.Common.{ap, arith, chain_root, get_or, IfBadOp, inherited, is_resolved, length, members, node_of, None, origins_of, refused}
+use Rattle.sim_merge.proofs.KeepingLemmas.{chain_root-first, chain_root-parent, chain_root-refused, members-parent}
+use Rattle.sim_merge.proofs.{ChildrenLemmas.IfBadOp-weaker, Common.roots_in, Common.rules, Common.slice_get, Common.suc, Common.sym, Common.there, Common.◌∙◌}
+use Rattle.sim_merge.proofs.{Common.◌≡◌, FitLemmas.chain_root-resolved, FitLemmas.there-resolved, KeepingLemmas.IsKept-set, KeepingLemmas.KeepsAll-set}
 
 pub keep-requires : goal.keep-requires
 keep-requires t c =

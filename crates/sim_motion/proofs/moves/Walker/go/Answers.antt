@@ -1,13 +1,14 @@
 -- The points of the way lie inside.
-use Rattle.std.proofs.Common.{List, All, ap, subst, sym, ◌∙◌}
-use Rattle.sim_base.specs.{Filters.field_of, Places.IsPlaced, Ways.Way, declared.place.Point.Point}
-use Rattle.sim_plans.proofs.Bounds.{ground, way_placed}
+use Rattle.sim_base.specs.{Commands.field_of, Places.IsPlaced, Ways.Way, Ways.way_of, declared.place.Point.Point}
+use Rattle.std.proofs.Common.{ap, rules, subst, sym, ◌∙◌, ◌≡◌}
+use Rattle.{sim_motion.specs.Moves.way_in, sim_plans.proofs.Bounds.ground, sim_plans.proofs.Bounds.way_placed, std.proofs.Common.All, std.proofs.Common.List}
 
 pub invariant_of-along : Rattle.sim_motion.proofs.moves.Walker.go.Goals.invariant_of-along
 invariant_of-along g c =
     let scene = c.args.scene.now in
+    let found : way_in c.in-Found.way ≡ way_of (field_of scene.setup.now scene.state.now) c.args.self.now.row.now.at c.args.goal.now = search rules in
     record {
-      placed = subst (λ (ps : List Point). All IsPlaced ps) (sym (c.as_slice-way.ensures ∙ ap (λ (w : Way). w.points) c.in_ok-found.ensures))
+      placed = subst (λ (ps : List Point). All IsPlaced ps) (sym (c.as_slice-way.ensures ∙ ap (λ (w : Way). w.points) found))
           (way_placed (field_of scene.setup.now scene.state.now) c.args.self.now.row.now.at c.args.goal.now (ground scene.setup.now c.requires.stands.limits)
           c.requires.at c.requires.goal);
     }

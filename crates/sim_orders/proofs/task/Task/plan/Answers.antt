@@ -1,7 +1,6 @@
 -- Each kind of command has a method that makes its changes.
-use Rattle.sim_orders.proofs.Common.{kind_of}
-use Rattle.sim_orders.proofs.Planning.{plan_fulfils}
 use Rattle.sim_orders.proofs.task.Task.plan.Goals as goal
+use Rattle.sim_orders.proofs.{Common.kind_of, Planning.plan_fulfils}
 
 pub returns-in-Walk-clause-obeys : goal.returns-in-Walk-clause-obeys
 returns-in-Walk-clause-obeys c =

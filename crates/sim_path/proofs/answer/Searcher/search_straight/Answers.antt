@@ -11,10 +11,12 @@ small_more key more lt le = omega arith
 none-left : (v goal : Cell) (near : ℕ) → octile v goal ≡ near → (octile v goal - near) / 2 * 2 ≡ 0
 none-left v goal near e = omega (arith, e)
 
-pub go_back-requires-clause-floor : goal.go_back-requires-clause-floor
-go_back-requires-clause-floor c =
-    known-front (field_of_grid c.args.question.now.grid.now) _ c.in_ok-stage-2.stage.search c.args.question.now.start 0 refl (c.in_ok-stage-2.ensures.start ∙
-    c.in_ok-stage.ensures.start) c.in_ok-stage-2.ensures.ready
+pub go_back-requires : goal.go_back-requires
+go_back-requires c = record {
+  floor_holds = known-front (field_of_grid c.args.question.now.grid.now) _ c.in_ok-stage-2.stage.search c.args.question.now.start 0 refl
+      (c.in_ok-stage-2.ensures.start ∙ c.in_ok-stage.ensures.start) c.in_ok-stage-2.ensures.ready;
+  ends = c.requires.ends;
+}
 
 pub finish-requires-clause-from : goal.finish-requires-clause-from
 finish-requires-clause-from c = c.in_ok-stage.ensures.start
@@ -62,9 +64,6 @@ go_on-requires-clause-small c = small c.in_ok-stage.stage.key c.in_ok-stage.ensu
 
 pub returns-in_err-stage-2 : goal.returns-in_err-stage-2
 returns-in_err-stage-2 c = IfOk-from_err _ _ c.from_residual-in_err-stage-2.ensures.0
-
-pub go_back-requires-clause-ends : goal.go_back-requires-clause-ends
-go_back-requires-clause-ends c = c.requires.ends
 
 pub finish-requires-2-clause-ends : goal.finish-requires-2-clause-ends
 finish-requires-2-clause-ends c = c.requires.ends

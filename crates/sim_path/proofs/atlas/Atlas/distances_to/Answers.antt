@@ -1,8 +1,7 @@
 -- Distances that are kept are on the ground.
-use Rattle.sim_path.proofs.Common.{All, Cell, Field, field_of_grid, get_or, length, List, same_cell-true, subst, sym, ℕ, ◌≡◌, ◌<◌, ◌∙◌}
-use Rattle.sim_path.proofs.atlas.Atlas.distances_to.Goals as goal
+use Rattle.sim_path.proofs.Common.{All, Cell, Field, field_of_grid, get_or, length, List, same_cell-true, subst, sym, ℕ, ◌<◌, ◌∙◌, ◌≡◌}
 use Rattle.sim_path.specs.Atlases.{AreOn, ground_in}
-use Rattle.sim_search.specs.{Distances.AreDistances, Distances.number_in, declared.distances.Distances.Distances}
+use Rattle.sim_search.specs.{Rows.AreDistances, Rows.number_in, declared.distances.Distances.Distances}
 
 -- an item of those that are kept is on the ground
 item-on : (field : Field) (items lent : List Distances) (n : ℕ) (item other : Distances) → lent ≡ items → item ≡ get_or lent n other → n < length lent
@@ -10,7 +9,7 @@ item-on : (field : Field) (items lent : List Distances) (n : ℕ) (item other : 
 item-on field items lent n item other e is lt all =
     subst (AreOn field) (sym is) (subst (λ (l : List Distances). All (AreOn field) l) (sym e) all n other lt)
 
-pub returns-then-eq-clause-distances : goal.returns-then-eq-clause-distances
+pub returns-then-eq-clause-distances : Rattle.sim_path.proofs.atlas.Atlas.distances_to.Goals.returns-then-eq-clause-distances
 returns-then-eq-clause-distances c =
     let field = field_of_grid (ground_in c.args.self.now.cells) in
     let item = c.distances-item.result in
@@ -19,7 +18,7 @@ returns-then-eq-clause-distances c =
     (item-on field c.args.self.now.goals.items c.as_slice-distances-items.result.now c.loop-distances.distances-index item _
     c.as_slice-distances-items.ensures.value c.distances-item.is c.loop-distances-test.true c.args.self.now.near).distances
 
-pub returns-then-eq-clause-size : goal.returns-then-eq-clause-size
+pub returns-then-eq-clause-size : Rattle.sim_path.proofs.atlas.Atlas.distances_to.Goals.returns-then-eq-clause-size
 returns-then-eq-clause-size c =
     let field = field_of_grid (ground_in c.args.self.now.cells) in
     let item = c.distances-item.result in

@@ -2,9 +2,8 @@
 use Rattle.sim_path.proofs.Common.{[], ◌%◌, ◌++◌, ◌∷◌, ◌≡◌, All, Bool, false, field_of_grid, List, subst, sym, true}
 use Rattle.{sim_path.specs.Atlases.AreOn, sim_path.specs.Atlases.ground_in, sim_search.specs.declared.distances.Distances.Distances}
 use Rattle.std.{proofs.lemmas.List.Elements.All-push, proofs.lemmas.List.Elements.All-set, specs.Bool.if◌then◌else◌, specs.Result.is_ok}
-use Rattle.sim_path.proofs.atlas.Atlas.keep.Goals as goal
 
-pub invariant_of-self : goal.invariant_of-self
+pub invariant_of-self : Rattle.sim_path.proofs.atlas.Atlas.keep.Goals.invariant_of-self
 invariant_of-self c =
     let old = c.args.self.now in
     record {
@@ -18,7 +17,7 @@ push-all : (P : Distances → Type 0) (pushed : Bool) (old new : List Distances)
 push-all P true old new x e all one = subst (All P) (sym e) (All-push P old x all one)
 push-all P false old new x e all one = subst (All P) (sym e) all
 
-pub invariant_of-self-else-is_err : goal.invariant_of-self-else-is_err
+pub invariant_of-self-else-is_err : Rattle.sim_path.proofs.atlas.Atlas.keep.Goals.invariant_of-self-else-is_err
 invariant_of-self-else-is_err c =
     let old = c.args.self.now in
     record {

@@ -3,14 +3,8 @@ use Rattle.sim_path.proofs.front.FrontDescent.first_tight.Goals as goal
 pub is_unknown-requires : goal.is_unknown-requires
 is_unknown-requires c = c.left_at-cost.ensures
 
-pub first_unknown-requires-clause-at_on : goal.first_unknown-requires-clause-at_on
-first_unknown-requires-clause-at_on c = c.requires.at_on
-
-pub first_unknown-requires-clause-free : goal.first_unknown-requires-clause-free
-first_unknown-requires-clause-free c = c.requires.free
-
-pub first_unknown-requires-clause-front : goal.first_unknown-requires-clause-front
-first_unknown-requires-clause-front c = c.requires.floor
+pub first_unknown-requires-clause-known : goal.first_unknown-requires-clause-known
+first_unknown-requires-clause-known c = c.requires
 
 pub first_unknown-requires-clause-unknown : goal.first_unknown-requires-clause-unknown
 first_unknown-requires-clause-unknown c = c.is_unknown.ensures.0 c.if-is_unknown.true

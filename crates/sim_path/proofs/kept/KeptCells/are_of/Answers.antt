@@ -1,7 +1,6 @@
 -- The words that are the same tell the same cells.
-use Rattle.sim_grid.specs.Packed.{ArePacked}
-use Rattle.std.proofs.{lemmas.Bool.Decides.Decides-eqb, lemmas.Slice.Eq.slice_eq-Decides}
-use Rattle.sim_path.proofs.{Common.List, Common.subst, Common.sym, Common.ℕ, Common.◌≡◌, Common.◌∙◌, KeptWords.kept-ground}
+use Rattle.sim_path.proofs.{Common.List, Common.subst, Common.sym, Common.ℕ, Common.◌∙◌, Common.◌≡◌, KeptWords.kept-ground}
+use Rattle.{sim_grid.specs.Packed.ArePacked, std.proofs.lemmas.Bool.Decides.Decides-eqb, std.proofs.lemmas.Slice.Eq.slice_eq-Decides}
 
 pub returns : Rattle.sim_path.proofs.kept.KeptCells.are_of.Goals.returns
 returns c = λ e.

@@ -1,14 +1,13 @@
 use Rattle.sim_path.{proofs.Common.arith, proofs.Remembering.stay_right, proofs.Remembering.with_right, specs.Atlases.ground_in}
-use Rattle.sim_path.proofs.remembered.Remembered.keep.Goals as goal
 
-pub invariant_of-self : goal.invariant_of-self
+pub invariant_of-self : Rattle.sim_path.proofs.remembered.Remembered.keep.Goals.invariant_of-self
 invariant_of-self c = record {
   full = c.args.self.now.full;
   right = stay_right (ground_in c.args.self.now.over) c.args.self.now.cells.items c.args.trip.cells.now c.extend_from_slice.new.self.items
       c.args.self.now.places.items _ c.extend_from_slice.ensures.items c.args.self.now.right;
 }
 
-pub invariant_of-self-2 : goal.invariant_of-self-2
+pub invariant_of-self-2 : Rattle.sim_path.proofs.remembered.Remembered.keep.Goals.invariant_of-self-2
 invariant_of-self-2 c = record {
   full = c.args.self.now.full;
   right = with_right (ground_in c.args.self.now.over) c.args.self.now.cells.items c.args.trip.cells.now c.extend_from_slice.new.self.items

@@ -1,9 +1,8 @@
 -- The first message is heard.
 use Rattle.{sim_pipes.proofs.Conveying.risen, std.proofs.lemmas.List.get_or_default}
 use Rattle.sim_pipes.proofs.Common.{◌≡◌, ◌<◌, [], ◌∷◌, length, ap, arith, Conveys, Heard, Held, IsSilent, IsUpFrame, pipe_in, server_of, subst, sym, ◌∙◌}
-use Rattle.sim_pipes.proofs.exchange.Exchange.rise.Goals as goal
 
-pub returns-clause-stands : goal.returns-clause-stands
+pub returns-clause-stands : Rattle.sim_pipes.proofs.exchange.Exchange.rise.Goals.returns-clause-stands
 returns-clause-stands c = λ setup s conv.
     let client = rw (← c.self.view_is) at c.requires in
     let held : Held = record { ups = c.self.inside.ups.items; downs = c.self.inside.downs.items; server = c.self.inside.server } in
@@ -14,7 +13,7 @@ returns-clause-stands c = λ setup s conv.
     ap (λ f. f ∷ c.take.new.self) (sym c.as_slice.ensures))
     c.hear.ensures.rules c.hear.ensures.heard
 
-pub returns-clause-light : goal.returns-clause-light
+pub returns-clause-light : Rattle.sim_pipes.proofs.exchange.Exchange.rise.Goals.returns-clause-light
 returns-clause-light c = λ frame rest message first is light silent.
     let client = rw (← c.self.view_is) at c.requires in
     let held : Held = record { ups = c.self.inside.ups.items; downs = c.self.inside.downs.items; server = c.self.inside.server } in

@@ -1,6 +1,6 @@
 -- The system of the ask's kind is fed.
-use Rattle.sim_plans.proofs.{Asking.answered, Asking.may_answer, SceneCommon.sym}
 use Rattle.sim_plans.proofs.scene.Scene.ask.Goals as goal
+use Rattle.sim_plans.proofs.{Answering.answered, Answering.may_answer, FactLists.sym}
 
 pub ask-requires-in-Range : goal.ask-requires-in-Range
 ask-requires-in-Range g c = may_answer _ _ _ _ _ (sym c.in-Range.ensures) c.requires.stands.fed.range c.requires.stands.valid c.requires.may

@@ -1,16 +1,14 @@
 -- The board took the state, has its line, and is played on.
-use Rattle.sim_play.proofs.{Common.sym, Common.turn_line, Common.◌∙◌, Past.begun_lines}
-use Rattle.sim_play.proofs.Common.{◌≡◌, suc, ◌-◌, ◌++◌, string_bytes, after, ap, digest, own_turns, past_lines, Setup, setup_in, State, state_in, subst}
-use Rattle.sim_play.proofs.rejoin.Client.adopt_lines.Goals as goal
-use Rattle.sim_base.proofs.Lists.{on_ok}
+use Rattle.sim_play.proofs.Common.{after, ap, digest, own_turns, past_lines, Setup, setup_in, State, state_in, string_bytes, subst, suc, sym, turn_line, ◌++◌}
+use Rattle.{sim_base.proofs.Lists.on_ok, sim_play.proofs.Common.◌-◌, sim_play.proofs.Common.◌∙◌, sim_play.proofs.Common.◌≡◌, sim_play.proofs.Past.begun_lines}
 
-pub push_past-requires-clause-own : goal.push_past-requires-clause-own
+pub push_past-requires-clause-own : Rattle.sim_play.proofs.rejoin.Client.adopt_lines.Goals.push_past-requires-clause-own
 push_past-requires-clause-own g c =
     let own = subst (λ (s : State). s ≡ after (setup_in c.args.board.now) (own_turns (setup_in c.args.board.now) 0 s.turn)) (sym c.in_ok-adopt.ensures.state)
     c.requires.own in
     subst (λ (s : Setup). state_in c.adopt.new.self ≡ after s (own_turns s 0 (state_in c.adopt.new.self).turn)) (sym c.in_ok-adopt.ensures.setup) own
 
-pub returns-clause-text : goal.returns-clause-text
+pub returns-clause-text : Rattle.sim_play.proofs.rejoin.Client.adopt_lines.Goals.returns-clause-text
 returns-clause-text g c =
     let setup = setup_in c.args.board.now in
     let same = setup_in c.adopt.new.self in

@@ -1,7 +1,7 @@
 -- Each of the four edits leaves what is kept of the id, and nothing else.
-use Rattle.sim_range.proofs.Common.{is_some, ap, nothing_new, put_new, put_nothing, put_over, ◌∙◌}
-use Rattle.sim_range.proofs.Putting.{named_inserted, named_over, named_removed, ok_list, only_ascends}
 use Rattle.sim_range.proofs.bucket.Bucket.put.Goals as goal
+use Rattle.sim_range.proofs.Common.{ap, is_some, nothing_new, put_new, put_nothing, put_over, ◌∙◌}
+use Rattle.sim_range.proofs.Watching.{named_inserted, named_over, named_removed, ok_list, only_ascends}
 
 pub returns-in-Ok-Some : goal.returns-in-Ok-Some
 returns-in-Ok-Some c = put_over _ c.args.self.now.facts.items c.args.id c.in-Ok-Some.at c.args.part.now _ c.as_slice.ensures.value c.args.self.now.ascending

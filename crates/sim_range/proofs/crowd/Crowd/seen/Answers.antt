@@ -1,5 +1,5 @@
 -- The fact that is found is held on the land.
-use Rattle.sim_range.proofs.{Common.sym, Held.found_held}
+use Rattle.sim_range.proofs.{Common.sym, Nearing.found_held}
 
 pub sight_of-requires : Rattle.sim_range.proofs.crowd.Crowd.seen.Goals.sight_of-requires
 sight_of-requires c = record {

@@ -1,11 +1,11 @@
 -- Those of one bucket more, or nobody where the bucket is out of reach or a move is seen from all of it.
-use Rattle.sim_range.proofs.{Seeing.agree_elsewhere, plan.Plan.find.Goals.else-is_concerned, plan.Plan.find.Goals.then-is_concerned+in_ok-push}
-use Rattle.sim_range.proofs.Between.{none_in_sight, none_turned}
-use Rattle.sim_range.proofs.Common.{is_seen, list_any-IsPermutation, Plan, sees, subst, sym, turned_seen, turned_watchers, ◌∙◌}
-use Rattle.sim_range.proofs.Common.{◌≡◌, ℕ, ◌*◌, ◌<◌, ◌≤◌, List, ◌++◌, ◌==◌, IsPermutation, ap, arith, below_bucket, Bucket, differ, Fact, held_in, inl, inr}
-use Rattle.sim_range.proofs.Nearing.{all_below, bucket_held, lent_held, more_chosen, nothing_more, start_chosen}
-use Rattle.sim_range.proofs.Planning.{no_watchers, none_in_view, pass_view, pass_watchers}
 use Rattle.sim_range.proofs.plan.Plan.find.Goals as goal
+use Rattle.sim_range.proofs.Common.{ap, arith, below_bucket, Bucket, differ, Fact, held_in, is_seen, IsPermutation, List, list_any-IsPermutation, Plan, sees}
+use Rattle.sim_range.proofs.Common.{subst, sym, turned_seen, turned_watchers, ℕ, ◌*◌, ◌++◌, ◌<◌, ◌==◌, ◌∙◌, ◌≡◌, ◌≤◌}
+use Rattle.sim_range.proofs.Nearing.{all_below, bucket_held, lent_held, more_chosen, nothing_more, start_chosen}
+use Rattle.sim_range.proofs.Planning.{no_watchers, none_in_sight, none_in_view, none_turned, pass_view, pass_watchers}
+use Rattle.sim_range.proofs.plan.Plan.find.Goals.{else-has, else-has-via-else-has, else-has-via-then-has+else-not-is_inner}
+use Rattle.sim_range.proofs.{Seeing.agree_elsewhere, plan.Plan.find.Goals.then-has+then-not-is_inner+in_ok-push}
 
 pub loop-number-init : goal.loop-number-init
 loop-number-init c =
@@ -44,8 +44,8 @@ loop-number-preserved c =
     let kept = c.loop-number.invariant in
     let changes = λ (f : Fact). differ (is_seen land f before) (is_seen land f after) in
     let views = λ (f : Fact). differ (sees land before f) (sees land after f) in
-    elim c.if-is_concerned.branch [
-      | then-is_concerned+in_ok-push w ↦
+    elim c.if-has.branch [
+      | then-has+then-not-is_inner+in_ok-push w ↦
           (let here = lent_held facts k c.args.crowd.now.buckets.now w.index-crowd-number.result _ c.args.crowd.now.sorted.bucketed (grind arith)
           w.index-crowd-number.is
           (w.as_slice-facts.ensures.value ∙ ap (λ (b : Bucket). b.facts.items) (sym w.index-crowd-number.is)) in
@@ -56,9 +56,10 @@ loop-number-preserved c =
             seen = more_chosen views k facts c.loop-number.self.seen.items _ kept.seen (ap (λ (p : Plan). p.seen.items) w.self-is ∙ w.in_ok-push.ensures.seen ∙
                 ap (λ (fs : List Fact). c.loop-number.self.seen.items ++ turned_seen land before after fs) here);
           })
-      | else-is_concerned w ↦ elim (c.is_concerned.ensures w.if-is_concerned.false) [
-        | inl out ↦
-            (let old_out = c.area_of-area.ensures.before k (λ rows columns. out columns) in
+      | else-has w ↦ elim w.else-has.branch [
+        | else-has-via-else-has v ↦
+            (let out = c.has.ensures.no v.if-has.false in
+            let old_out = c.area_of-area.ensures.before k (λ rows columns. out columns) in
             let new_out = c.area_of-area.ensures.after k (λ rows columns. out columns) in
             record {
               watchers = more_chosen changes k facts c.loop-number.self.watchers.items _ kept.watchers
@@ -73,7 +74,8 @@ loop-number-preserved c =
                   c.requires.before_far
                   c.requires.after_far));
             })
-        | inr inner ↦
+        | else-has-via-then-has+else-not-is_inner v ↦
+            (let inner = v.is_inner.ensures v.if-not-is_inner.false in
             record {
               watchers = more_chosen changes k facts c.loop-number.self.watchers.items _ kept.watchers
                   (ap (λ (p : Plan). p.watchers.items) w.self-is ∙ nothing_more c.loop-number.self.watchers.items
@@ -84,7 +86,7 @@ loop-number-preserved c =
                   (ap (λ (p : Plan). p.seen.items) w.self-is ∙ nothing_more c.loop-number.self.seen.items (turned_seen land before after (held_in k facts))
                   (none_in_sight land c.args.visions.now.near k facts c.args.crowd.now.sorted.placed c.requires.near before after c.requires.before_near
                   inner));
-            }
+            })
       ]
     ]
 
@@ -102,7 +104,8 @@ returns-clause-watchers c =
     let at_end : c.loop-number.number ≡ end = grind arith in
     let here = subst (λ (n : ℕ). IsPermutation (turned_watchers land before after (below_bucket n facts)) ids) at_end c.loop-number.invariant.watchers in
     let further = subst (λ (xs : List ℕ). IsPermutation xs ids)
-    (sym (pass_watchers land c.args.visions.now.far before after facts c.args.crowd.now.sorted.placed c.requires.far end 256 (omega (arith, area.end)) old_out
+    (sym (pass_watchers land c.args.visions.now.far before after facts c.args.crowd.now.sorted.placed c.requires.far end 256
+    (omega (arith, c.area_of-area.result.rows.within)) old_out
     new_out))
     here in
     let whole = subst (λ (fs : List Fact). IsPermutation (turned_watchers land before after fs) ids)
@@ -124,7 +127,8 @@ returns-clause-seen c =
     let at_end : c.loop-number.number ≡ end = grind arith in
     let here = subst (λ (n : ℕ). IsPermutation (turned_seen land before after (below_bucket n facts)) ids) at_end c.loop-number.invariant.seen in
     let further = subst (λ (xs : List ℕ). IsPermutation xs ids)
-    (sym (pass_view land c.args.visions.now.far before after facts c.args.crowd.now.sorted.placed c.requires.far end 256 (omega (arith, area.end)) old_out
+    (sym (pass_view land c.args.visions.now.far before after facts c.args.crowd.now.sorted.placed c.requires.far end 256
+    (omega (arith, c.area_of-area.result.rows.within)) old_out
     new_out
     c.requires.before_far c.requires.after_far)) here in
     let whole = subst (λ (fs : List Fact). IsPermutation (turned_seen land before after fs) ids)

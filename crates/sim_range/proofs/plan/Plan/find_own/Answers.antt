@@ -1,6 +1,6 @@
 -- It begins with what the entity saw, which is nothing where it was not kept.
-use Rattle.sim_range.proofs.{Common.ap, Common.Plan, Common.◌∙◌, plan.Plan.find_own.Goals.in-Ok+in_ok-copy_from, plan.Plan.find_own.Goals.in_default-place_of}
-use Rattle.sim_range.proofs.Own.{saw, saw_none}
+use Rattle.sim_range.proofs.plan.Plan.find_own.Goals.{in_default-place_of}
+use Rattle.sim_range.proofs.{Common.Plan, Common.ap, Common.◌∙◌, Watching.saw, Watching.saw_none, plan.Plan.find_own.Goals.in-Ok+in_ok-copy_from}
 
 pub turn_own-requires-clause-own : Rattle.sim_range.proofs.plan.Plan.find_own.Goals.turn_own-requires-clause-own
 turn_own-requires-clause-own c =

@@ -1,5 +1,5 @@
 -- The numbers of the buckets of a row are those of 16 columns.
-use Rattle.sim_range.proofs.{Changing.lent_is, Common.ℕ, Common.◌+◌, Common.◌*◌, Common.ap, Common.◌∙◌}
+use Rattle.sim_range.proofs.{Common.ap, Common.ℕ, Common.◌*◌, Common.◌+◌, Common.◌∙◌, Nearing.lent_is}
 
 pub returns-in-Some : Rattle.sim_range.proofs.range.Range.bucket.Goals.returns-in-Some
 returns-in-Some c =

@@ -1,9 +1,9 @@
 -- The buckets and the sights after the note are those of the facts after it.
-use Rattle.sim_range.proofs.{Bucketing.found_placed, Bucketing.part_placed, Bucketing.placed_after, Common.subst, Common.sym, Common.with_only, Common.◌∙◌}
-use Rattle.sim_range.proofs.{Changing.noted_buckets, Changing.still_built, Keeping.kept_along, Keeping.ready_along, Lending.found_for, Lending.found_is}
-use Rattle.sim_range.proofs.Common.{List, ap, ArePlaced, arith, Fact, has_land, held_in, noted, put_is, put_named, Range as RangeKind, SeesFrom, SeesWithin}
-use Rattle.sim_range.proofs.Found.{found_held, part_held}
 use Rattle.sim_range.proofs.range.RangeSystem.on.Goals as goal
+use Rattle.sim_range.proofs.Common.{ap, ArePlaced, arith, Fact, has_land, held_in, List, noted, put_is, put_named, Range as RangeKind, SeesFrom, SeesWithin}
+use Rattle.sim_range.proofs.Common.{subst, sym, with_only, ◌∙◌}
+use Rattle.sim_range.proofs.Lending.{found_for, found_held, found_is, kept_along, part_held, ready_along}
+use Rattle.sim_range.proofs.Nearing.{found_placed, noted_buckets, part_placed, placed_after, still_built}
 
 pub make_ready-requires : goal.make_ready-requires
 make_ready-requires c =
@@ -77,13 +77,17 @@ take_up-requires-clause-ready c keeps =
     c.part_after-after.result c.make_ready.new.sights e.land e.facts c.find-before.ensures
     (c.in_ok-make_ready.ensures.ready (sym e.keeps ∙ keeps))
 
-pub change-requires-clause-ends : goal.change-requires-clause-ends
-change-requires-clause-ends c =
+pub change-requires-clause-moves : goal.change-requires-clause-moves
+change-requires-clause-moves c =
     let s = c.args.self.now in
     record {
-      from = found_placed s.kept.facts.items c.id_of-id.result c.find-before.result c.find-before.ensures s.placed;
-      to = part_placed RangeKind s.kept.land s.kept.facts.items c.args.note.now c.id_of-id.result c.find-before.result c.part_after-after.result c.requires
-          s.kept.held c.id_of-id.ensures c.find-before.ensures c.part_after-after.ensures;
+      whole = c.make_ready.ensures.buckets.whole;
+      ends = record {
+        from = found_placed s.kept.facts.items c.id_of-id.result c.find-before.result c.find-before.ensures s.placed;
+        to = part_placed RangeKind s.kept.land s.kept.facts.items c.args.note.now c.id_of-id.result c.find-before.result c.part_after-after.result c.requires
+            s.kept.held c.id_of-id.ensures c.find-before.ensures c.part_after-after.ensures;
+      };
+      room = c.in_ok-make_ready.ensures.buckets_room;
     }
 
 pub change-requires-clause-named : goal.change-requires-clause-named

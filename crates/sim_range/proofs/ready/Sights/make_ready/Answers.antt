@@ -1,7 +1,7 @@
 -- The facts are held on the land, and the ids of the sights stay as they were.
-use Rattle.sim_range.proofs.{Keeping.further, Keeping.nearer, Lending.same_sights, Own.in_view, Watching.long_as}
-use Rattle.sim_range.proofs.Common.{List, length, refl, ap, Ascend, Fact, Holds, ids_at, ids_of, Sight, sight, subst, sym, ◌∙◌}
 use Rattle.sim_range.proofs.ready.Sights.make_ready.Goals as goal
+use Rattle.sim_range.proofs.Common.{Fact, Holds, List, Sight, ap, ids_at, ids_of, length, refl, sight, subst, sym, ◌∙◌}
+use Rattle.sim_range.proofs.{Lending.further, Lending.nearer, Lending.same_sights, Watching.in_view, Watching.long_as}
 
 pub invariant_of-crowd : goal.invariant_of-crowd
 invariant_of-crowd c = rw c.as_slice-facts.ensures.value (record {
@@ -29,14 +29,11 @@ find_own-requires-clause-seen c =
     in_view c.in-Some.land c.args.kept.now.facts.items c.as_slice-facts.result.now c.args.before.now c.args.after.now c.find.new.self.seen.items
     c.as_slice-facts.ensures.value c.requires.found c.in_ok-find.ensures.seen
 
-pub make_rooms-requires-clause-ascending : goal.make_rooms-requires-clause-ascending
-make_rooms-requires-clause-ascending c = subst Ascend (sym c.as_slice-facts.ensures.value) (c.args.kept.now.held c.in-Some.land c.in-Some.is).held.ascending
-
-pub make_rooms-requires-clause-along : goal.make_rooms-requires-clause-along
-make_rooms-requires-clause-along c =
-    long_as ids_of (sight c.in-Some.land c.args.kept.now.facts.items) c.args.self.now.all.items c.args.kept.now.facts.items
-    ((c.requires.kept c.if-not-self.false).all c.in-Some.land c.in-Some.is)
-    ∙ ap (λ (fs : List Fact). length fs) (sym c.as_slice-facts.ensures.value)
+pub make_rooms-requires : goal.make_rooms-requires
+make_rooms-requires c = record {
+  along = long_as ids_of (sight c.in-Some.land c.args.kept.now.facts.items) c.args.self.now.all.items c.args.kept.now.facts.items
+      ((c.requires.kept c.if-not-self.false).all c.in-Some.land c.in-Some.is) ∙ ap (λ (fs : List Fact). length fs) (sym c.as_slice-facts.ensures.value);
+}
 
 pub returns-in_err-make_rooms-clause-kept : goal.returns-in_err-make_rooms-clause-kept
 returns-in_err-make_rooms-clause-kept c keeps =

@@ -1,6 +1,6 @@
-use Rattle.sim_search.proofs.Cells.{entry_at-set_other, entry_at-set_same}
-use Rattle.sim_search.proofs.Common.{known, length-map, map-set, read_entry, size_of, ◌∙◌}
-use Rattle.sim_search.proofs.Common.{◌≡◌, ℕ, ◌*◌, eqb, List, map, length, set, Some, None, Option, refl, ap, arith, Cell, cond-true, Entry, entry_at, eq-eqb}
+use Rattle.sim_search.proofs.Common.{ap, arith, Cell, cond-true, Entry, entry_at, eq-eqb, eqb, known, length, length-map, List, map, map-set, None, Option}
+use Rattle.sim_search.proofs.Common.{read_entry, refl, set, size_of, Some, ℕ, ◌*◌, ◌∙◌, ◌≡◌}
+use Rattle.sim_search.proofs.Rows.{entry_at-set_other, entry_at-set_same}
 
 pub returns : Rattle.sim_search.proofs.costs.Costs.set.Goals.returns
 returns c =

@@ -1,4 +1,4 @@
-use Rattle.{sim_grid.proofs.Beside.place-below, sim_search.proofs.Common.arith, sim_search.specs.Distances.size_about}
+use Rattle.{sim_grid.proofs.Beside.place-below, sim_search.proofs.Common.arith, sim_search.specs.Rows.size_about}
 
 pub index-requires : Rattle.sim_search.proofs.distances.Distances.at_spot.Goals.index-requires
 index-requires c =

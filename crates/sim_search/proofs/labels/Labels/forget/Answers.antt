@@ -2,9 +2,8 @@
 use Rattle.std.proofs.lemmas.List.Elements.{All-contains, All-more}
 use Rattle.{sim_grid.proofs.Beside.same_or_not, sim_search.proofs.Added.gone_through, sim_search.specs.Floods.label_in}
 use Rattle.sim_search.proofs.Common.{◌≡◌, ℕ, ◌≢◌, ◌⊎◌, List, All-weaker, Cell, Contains, Contains-get_or, get_or, inl, inr, None, subst, sym, take, ⊎_elim, ◌∙◌}
-use Rattle.sim_search.proofs.labels.Labels.forget.Goals as goal
 
-pub loop-cell-preserved : goal.loop-cell-preserved
+pub loop-cell-preserved : Rattle.sim_search.proofs.labels.Labels.forget.Goals.loop-cell-preserved
 loop-cell-preserved c = record {
   here = All-more Has xs i (record { x = 0; z = 0 }) c.loop-cell-test.true
       (All-weaker Had Has (λ e h. still e h (same_or_not e x)) (take i xs) c.loop-cell.invariant.here) c.clear.ensures.here;
@@ -35,7 +34,7 @@ loop-cell-preserved c = record {
     elsewhere e (inr other) = ⊎_elim (λ (h : label_in c.loop-cell.self e ≡ label_in c.args.self.now e). inl (c.clear.ensures.elsewhere e other ∙ h))
         (λ (h : Contains xs e). inr h) (c.loop-cell.invariant.elsewhere e)
 
-pub returns : goal.returns
+pub returns : Rattle.sim_search.proofs.labels.Labels.forget.Goals.returns
 returns c = record {
   here = λ e h. All-contains (λ (v : Cell). label_in c.loop-cell.self v ≡ None) c.args.cells.now e
       (gone_through (λ (v : Cell). label_in c.loop-cell.self v ≡ None) c.args.cells.now c.loop-cell.cell-index c.loop-cell-test.false

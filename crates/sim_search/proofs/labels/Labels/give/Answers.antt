@@ -1,9 +1,9 @@
 -- One cell more has the label.
-use Rattle.std.proofs.lemmas.List.Elements.{All-contains, All-more}
-use Rattle.sim_search.proofs.{Added.gone_through, Common.IsOnGround, Common.Size, Common.Some, Common.subst, Common.sym, Common.take, Common.⊎_elim, Common.◌∙◌}
-use Rattle.sim_search.proofs.Common.{◌≡◌, ℕ, ◌≢◌, ◌⊎◌, List, All-get_or, All-weaker, Cell, Contains, Contains-get_or, get_or, inl, inr}
 use Rattle.sim_search.proofs.labels.Labels.give.Goals as goal
-use Rattle.{sim_grid.proofs.Beside.same_or_not, sim_search.specs.Floods.label_in, sim_search.specs.Mending.HasRoom}
+use Rattle.sim_search.proofs.Common.{All-get_or, All-weaker, Cell, Contains, Contains-get_or, get_or, inl, inr, IsOnGround, List, Size, Some, subst, sym, take}
+use Rattle.sim_search.proofs.{Added.gone_through, Common.ℕ, Common.⊎_elim, Common.◌∙◌, Common.◌≡◌, Common.◌≢◌, Common.◌⊎◌}
+use Rattle.std.proofs.lemmas.List.Elements.{All-more}
+use Rattle.{sim_grid.proofs.Beside.same_or_not, sim_search.specs.Floods.HasRoom, sim_search.specs.Floods.label_in, std.proofs.lemmas.List.Elements.All-contains}
 
 pub set-requires : goal.set-requires
 set-requires c = subst (λ (size : Size). IsOnGround size (get_or c.args.cells.now c.loop-cell.cell-index (record { x = 0; z = 0 })))

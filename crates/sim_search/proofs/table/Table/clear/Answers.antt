@@ -1,8 +1,7 @@
-use Rattle.sim_search.proofs.Cells.{entry_at-off, entry_at-set_other, entry_at-set_same, has_cell-true}
-use Rattle.sim_search.proofs.Common.{◌≡◌, ◌*◌, ◌⊎◌, true, false, cases_Bool, entry_in, has_cell, inl, inr, length, None, refl, arith, size_in, sym, true≢false, ◌∙◌}
-use Rattle.sim_search.proofs.table.Table.clear.Goals as goal
+use Rattle.sim_search.proofs.Common.{arith, cases_Bool, entry_in, false, has_cell, inl, inr, length, None, refl, size_in, sym, true, true≢false, ◌*◌, ◌∙◌, ◌≡◌}
+use Rattle.sim_search.proofs.{Common.◌⊎◌, Rows.entry_at-off, Rows.entry_at-set_other, Rows.entry_at-set_same, Rows.has_cell-true}
 
-pub returns-then-has : goal.returns-then-has
+pub returns-then-has : Rattle.sim_search.proofs.table.Table.clear.Goals.returns-then-has
 returns-then-has c =
     let old = c.args.self.now in
     let on = c.has.ensures.0 c.if-has.true in
@@ -14,7 +13,7 @@ returns-then-has c =
       elsewhere = λ e ne. rw p (entry_at-set_other None (size_in old) old.items.items c.args.cell e None on ne);
     }
 
-pub returns-else-has : goal.returns-else-has
+pub returns-else-has : Rattle.sim_search.proofs.table.Table.clear.Goals.returns-else-has
 returns-else-has c = record { size = refl; here = by (cases_Bool (has_cell (size_in c.args.self.now) c.args.cell)); elsewhere = λ e ne. refl }
   where
     by : (has_cell (size_in c.args.self.now) c.args.cell ≡ true) ⊎ (has_cell (size_in c.args.self.now) c.args.cell ≡ false)

@@ -1,5 +1,5 @@
-use Rattle.sim_search.proofs.Cells.{entry_at-set_other, entry_at-set_same}
-use Rattle.sim_search.proofs.Common.{◌≡◌, ℕ, ◌*◌, length, set, Some, None, refl, ap, arith, size_in}
+use Rattle.sim_search.proofs.Common.{ap, arith, length, None, refl, set, size_in, Some, ℕ, ◌*◌, ◌≡◌}
+use Rattle.sim_search.proofs.Rows.{entry_at-set_other, entry_at-set_same}
 
 pub returns : Rattle.sim_search.proofs.table.Table.set.Goals.returns
 returns c =

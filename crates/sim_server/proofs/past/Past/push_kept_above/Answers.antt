@@ -1,15 +1,14 @@
 -- One turn more is told, up to the last of which there is a list.
-use Rattle.sim_server.proofs.Common.{◌≡◌, ℕ, ◌+◌, ◌-◌, List, ◌++◌, map, ap, arith, Command, DownOf, kept_above, kept_in, posted_to, sym, ◌∙◌}
-use Rattle.sim_server.proofs.Said.{above_last, above_more, more_to}
-use Rattle.sim_server.proofs.past.Past.push_kept_above.Goals as goal
+use Rattle.sim_server.proofs.Common.{ap, arith, Command, DownOf, kept_above, kept_in, List, map, posted_to, sym, ℕ, ◌++◌, ◌+◌, ◌-◌, ◌∙◌, ◌≡◌}
+use Rattle.sim_server.proofs.Made.{above_last, above_more, more_to}
 
-pub loop-i-preserved : goal.loop-i-preserved
+pub loop-i-preserved : Rattle.sim_server.proofs.past.Past.push_kept_above.Goals.loop-i-preserved
 loop-i-preserved c =
     more_to c.args.to c.args.posts.now c.loop-i.posts c.push_orders.new.posts (kept_above (kept_in c.args.self.now.kept.now) c.args.turn c.loop-i.i)
     (map (Command (c.args.turn + c.loop-i.i + 1)) c.kept_of.result.now) _
     c.loop-i.invariant c.in_ok-push_orders.ensures (above_more (kept_in c.args.self.now.kept.now) c.args.turn c.loop-i.i c.kept_of.result.now c.kept_of.ensures)
 
-pub returns : goal.returns
+pub returns : Rattle.sim_server.proofs.past.Past.push_kept_above.Goals.returns
 returns c =
     let reached : c.loop-i.i ≡ c.last_kept.result - c.args.turn = omega (arith, c.loop-i-test.false, c.loop-i.auto.i-end, c.saturating_sub-count.ensures) in
     c.loop-i.invariant

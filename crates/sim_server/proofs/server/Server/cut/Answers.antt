@@ -18,10 +18,11 @@ pub returns-clause-answers : goal.returns-clause-answers
 returns-clause-answers c = λ active h stands. answers c.args.self.now _ active h (Cut c.args.client) (Ok c.in_ok-posts.posts) (returns-clause-made c) stands
 
 pub returns-in_err-posts-clause-silent : goal.returns-in_err-posts-clause-silent
-returns-in_err-posts-clause-silent c = λ s. absurd (false≢true (c.in_err-posts.ensures.quiet
-    (cut_stays _ c.args.client c.raised_of-risen.result c.self.invariant.seated (rw (← c.self.view_is) at c.requires) c.raised_of-risen.ensures
-    (rw (← c.self.view_is) at s))
-    (cut_alone _ c.args.client c.self.invariant.seated (rw (← c.self.view_is) at c.requires) (rw (← c.self.view_is) at s))))
+returns-in_err-posts-clause-silent c = λ s. absurd (false≢true (c.in_err-posts.ensures.quiet (
+  cut_stays _ c.args.client c.raised_of-risen.result c.self.invariant.seated (rw (← c.self.view_is) at c.requires) c.raised_of-risen.ensures
+      (rw (← c.self.view_is) at s),
+  cut_alone _ c.args.client c.self.invariant.seated (rw (← c.self.view_is) at c.requires) (rw (← c.self.view_is) at s),
+)))
 
 pub returns-clause-silent : goal.returns-clause-silent
 returns-clause-silent c = λ s. silent c.args.self.now _ (Cut c.args.client) (Ok c.in_ok-posts.posts) (returns-clause-made c) refl s

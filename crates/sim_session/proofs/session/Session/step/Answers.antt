@@ -1,10 +1,10 @@
 -- One client acts in its place in the list, and all others are as they were.
-use Rattle.sim_session.proofs.{Beside.then_ok, Beside.then_on, Common.systems_on, Common.◌∙◌, Seating.changed, Seating.kinds_put, Seating.was_there}
-use Rattle.sim_session.proofs.Common.{has_load, IsMemberBy, length-set, life_at, lives_of, Makes, session, Setup, stepped_by, subst, sym, systems_by}
-use Rattle.sim_session.proofs.Common.{◌+◌, ◌-◌, ◌<◌, ◌≤◌, vec_capacity, refl, rules, List, length, get_or}
-use Rattle.sim_session.proofs.Common.{set, All-set, ap, AreBuilt, AreBuiltIf, arith, ChangeAt, client_of, Event, events_by}
-use Rattle.sim_session.proofs.Stepping.{events_are, goes_on_at, one_beside, some_beside, stepped_is}
 use Rattle.sim_session.proofs.session.Session.step.Goals as goal
+use Rattle.sim_session.proofs.Beside.{then_ok, then_on}
+use Rattle.sim_session.proofs.Common.{All-set, ap, AreBuilt, AreBuiltIf, arith, ChangeAt, client_of, Event, events_by, get_or, has_load, IsMemberBy, length}
+use Rattle.sim_session.proofs.Common.{length-set, life_at, List, lives_of, Makes, refl, rules, session, set, Setup, stepped_by, subst, sym, systems_by}
+use Rattle.sim_session.proofs.Common.{systems_on, vec_capacity, ◌+◌, ◌-◌, ◌<◌, ◌∙◌, ◌≤◌}
+use Rattle.sim_session.proofs.Stepping.{changed, events_are, goes_on_at, kinds_put, one_beside, some_beside, stepped_is, was_there}
 
 pub act-requires-clause-may : goal.act-requires-clause-may
 act-requires-clause-may g c =

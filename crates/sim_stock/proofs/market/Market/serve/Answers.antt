@@ -1,9 +1,8 @@
 -- The command is left out, or obeyed and paid for.
 use Rattle.sim_stock.proofs.Common.{List, ap, arith, price_of, Rate, refl, setup_in, state_in, ◌∙◌}
 use Rattle.{sim_board.proofs.Keeping.kept_fed, sim_stock.proofs.Paying.left_out, sim_stock.proofs.Paying.served}
-use Rattle.sim_stock.proofs.market.Market.serve.Goals as goal
 
-pub returns-then-affords : goal.returns-then-affords
+pub returns-then-affords : Rattle.sim_stock.proofs.market.Market.serve.Goals.returns-then-affords
 returns-then-affords g c =
     let sold = c.sell.ensures in
     let prices = c.args.self.now.economy.now.prices in
@@ -17,7 +16,7 @@ returns-then-affords g c =
       setup = sold.goes.setup;
     }
 
-pub returns : goal.returns
+pub returns : Rattle.sim_stock.proofs.market.Market.serve.Goals.returns
 returns g c =
     let prices = c.args.self.now.economy.now.prices in
     let priced = c.price_of-price.ensures ∙ ap (λ (rates : List Rate). price_of rates c.args.order.now.command) c.as_slice-prices.ensures in

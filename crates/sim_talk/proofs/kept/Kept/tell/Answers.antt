@@ -1,6 +1,5 @@
 -- All that was kept is written, and then the text is told.
-use Rattle.sim_talk.{proofs.Keeping.told_behind, specs.LineTalk.TellCounts}
-use Rattle.std.proofs.Common.{ℕ, subst}
+use Rattle.{sim_talk.proofs.Keeping.told_behind, sim_talk.specs.LineTalk.TellCounts, std.proofs.Common.subst, std.proofs.Common.ℕ}
 
 pub returns : Rattle.sim_talk.proofs.kept.Kept.tell.Goals.returns
 returns g c =

@@ -2,9 +2,8 @@
 use Rattle.std.proofs.Common.{◌≡◌, ◌+◌, ◌-◌, ◌⊎◌, [], length}
 use Rattle.std.specs.Io.KnownBytes.{Consumes, prepend_known}
 use Rattle.sim_talk.specs.{Ahead.bytes_ahead, Kept.bytes_kept, Lines.IsPart, Lines.IsWithinLine}
-use Rattle.sim_talk.proofs.line_talk.LineTalk.read_line.Given as goal
 
-abbrev pub invariant-pieces : goal.invariant-pieces
+abbrev pub invariant-pieces : Rattle.sim_talk.proofs.line_talk.LineTalk.read_line.Given.invariant-pieces
 invariant-pieces g l = record {
   part : IsPart l.self.most l.line.items;
   taken : Consumes (prepend_known (bytes_ahead l.fn.self.ahead) (g.S.Source.left l.fn.self.source))
@@ -17,5 +16,5 @@ invariant-pieces g l = record {
   most : l.self.most ≡ l.fn.self.most;
 }
 
-abbrev pub decreases-pieces : goal.decreases-pieces
+abbrev pub decreases-pieces : Rattle.sim_talk.proofs.line_talk.LineTalk.read_line.Given.decreases-pieces
 decreases-pieces g l = l.self.most + 1 - (length l.line.items + length (bytes_ahead l.self.ahead))

@@ -1,7 +1,7 @@
 -- Of a text that does not fit, or for which there was no memory, a beginning was told, and that is counted.
-use Rattle.{sim_store.specs.Counts.raised, sim_store.specs.declared.fault.Failed.Failed, std.specs.Prelude.⊤}
-use Rattle.std.proofs.Common.{◌≡◌, ℕ, List, [], ◌∷◌, take, Ok, Err, Result, refl, append-nil, sym, ◌∙◌}
-use Rattle.sim_talk.specs.{MemTalk.history_of, MemTalk.KeepsTold, Talks.none_of, Talks.part_of, Talks.Passed, Talks.Tells, Talks.told, Talks.told_bytes}
+use Rattle.sim_talk.specs.{MemTalk.KeepsTold, MemTalk.history_of, Talks.Passed, Talks.Tells, Talks.none_of, Talks.part_of, Talks.told, Talks.told_bytes}
+use Rattle.std.proofs.Common.{[], append-nil, Err, List, Ok, refl, Result, sym, take, ℕ, ◌∙◌, ◌∷◌, ◌≡◌}
+use Rattle.{sim_store.specs.Shelf.raised, sim_store.specs.declared.fault.Failed.Failed, std.specs.Prelude.⊤}
 
 told_in_part : (result : Result ⊤ Failed) (failed : Failed) (text : List ℕ) (count : ℕ) (xs ys : List Passed) (unread unwritten unwritten' : ℕ)
     → KeepsTold result (take count text) xs ys → unwritten' ≡ raised 1 unwritten

@@ -1,9 +1,8 @@
 -- What was counted where the other talk asks.
 use Rattle.sim_talk.{proofs.Prompting.heard_read, proofs.Prompting.heard_wrote, specs.LineTalk.HearCounts, specs.LineTalk.WriteCounts}
 use Rattle.std.proofs.Common.{ℕ, subst}
-use Rattle.sim_talk.proofs.prompt_talk.PromptTalk.ask.Goals as goal
 
-pub returns : goal.returns
+pub returns : Rattle.sim_talk.proofs.prompt_talk.PromptTalk.ask.Goals.returns
 returns g c = record {
   read = subst (λ (n : ℕ). HearCounts c.hear.result n (g.T.Talk.history c.hear.new.self).unread) c.in_ok-say.ensures.read
       (heard_read c.hear.result _ _ _ c.hear.ensures);

@@ -1,8 +1,7 @@
 -- One cell more is looked at.
-use Rattle.sim_territory.proofs.Common.{◌≡◌, ◌*◌, length, List, [], Contains, refl, arith, Cell, Contains-push, ground_of, IsOnGround, nil_from_length}
-use Rattle.sim_territory.proofs.Common.{Size, subst, sym}
-use Rattle.sim_territory.proofs.Flooding.{filling_begins, filling_ends, filling_next, taken_less}
 use Rattle.sim_territory.proofs.flood.Flood.fill.Goals as goal
+use Rattle.sim_territory.proofs.Common.{[], arith, Cell, Contains, Contains-push, ground_of, IsOnGround, length, List, nil_from_length, refl, Size, subst, sym}
+use Rattle.sim_territory.proofs.{Common.◌*◌, Common.◌≡◌, Flooding.filling_begins, Flooding.filling_ends, Flooding.filling_next, Flooding.taken_less}
 
 pub loop-from-init : goal.loop-from-init
 loop-from-init c = filling_begins (ground_of c.args.self.now c.args.holders.now) c.args.self.now refl c.requires.all

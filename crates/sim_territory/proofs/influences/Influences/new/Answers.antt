@@ -1,5 +1,5 @@
 -- Nobody holds a cell at first.
-use Rattle.sim_territory.proofs.{Common.refl, SumPlaces.nobody_holds}
+use Rattle.sim_territory.proofs.{Common.refl, Keeping.nobody_holds}
 
 pub invariant_of-result : Rattle.sim_territory.proofs.influences.Influences.new.Goals.invariant_of-result
 invariant_of-result c = record {

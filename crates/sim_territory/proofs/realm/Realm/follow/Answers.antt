@@ -1,16 +1,15 @@
 -- The realm of the next state.
 use Rattle.sim_territory.proofs.Common.{List, AreInfluences, AreShifted, FitShifts, IsValid, Mark, RealmOf, Shift, subst, sym, ◌∙◌}
 use Rattle.sim_territory.proofs.Keeping.{realm_fits, realm_follows}
-use Rattle.sim_territory.proofs.realm.Realm.follow.Goals as goal
 
-pub follow-requires-2 : goal.follow-requires-2
+pub follow-requires-2 : Rattle.sim_territory.proofs.realm.Realm.follow.Goals.follow-requires-2
 follow-requires-2 c =
     let in_it = c.self.inside in
     let valid = subst (λ (r : RealmOf). IsValid r.setup c.args.state.now) (sym c.self.view_is) c.requires in
     subst (λ (xs : List Shift). FitShifts in_it.setup.now xs in_it.influences.sums) (sym (c.as_slice.ensures ∙ c.in_ok-shifts.ensures.shifts))
     (realm_fits in_it.setup.now in_it.trail c.args.state.now in_it.influences.sums c.in_ok-shifts.ensures.ascending valid c.self.invariant)
 
-pub invariant_of-self-2 : goal.invariant_of-self-2
+pub invariant_of-self-2 : Rattle.sim_territory.proofs.realm.Realm.follow.Goals.invariant_of-self-2
 invariant_of-self-2 c =
     let in_it = c.self.inside in
     let valid = subst (λ (r : RealmOf). IsValid r.setup c.args.state.now) (sym c.self.view_is) c.requires in

@@ -1,6 +1,6 @@
 -- The flood has come to the rooted cells.
-use Rattle.sim_territory.proofs.{Common.size_in, Common.subst, Common.sym, Common.◌∙◌, Rooting.rooted_found}
-use Rattle.sim_territory.proofs.Common.{◌≡◌, ℕ, ◌*◌, Bool, List, length, AreRooted, arith, Fills, ground_of, ground_size, IsWetAt, Mark, RealmOf, roots_of}
+use Rattle.sim_territory.proofs.Common.{AreRooted, arith, Bool, Fills, ground_of, ground_size, IsWetAt, length, List, Mark, RealmOf, roots_of, size_in, subst}
+use Rattle.sim_territory.proofs.{Common.sym, Common.ℕ, Common.◌*◌, Common.◌∙◌, Common.◌≡◌, Flooding.rooted_found}
 
 pub returns : Rattle.sim_territory.proofs.realm.Realm.rooted.Goals.returns
 returns c =

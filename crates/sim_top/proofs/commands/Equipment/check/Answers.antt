@@ -1,9 +1,18 @@
 -- The match and a log of it were read and the one was played by the other, or one could not be read.
-use Rattle.sim_top.proofs.{Answering.match_ends, Checking.check_ends, Checking.check_opens, Checking.log_ends, Checking.log_goes_on, Checking.log_stands}
-use Rattle.sim_top.proofs.Common.{shelved, StandForLog, state_after, status_made, Stop, subst, sym, systems_by, to_check, ◌∙◌}
-use Rattle.sim_top.proofs.Common.{◌≡◌, List, Some, Err, Result, refl, Answer, bytes_in, check_outcome, File, IsAnswerTo, match_in, RigsCameBackBy, rules, Setup}
-use Rattle.sim_top.proofs.Returning.{first_played, kind_of_first, rigs_left, room_for, stands_read}
 use Rattle.sim_top.proofs.commands.Equipment.check.Goals as goal
+use Rattle.sim_base.specs.declared.{command.PlayerCommand.PlayerCommand, memory.OutOfMemory.OutOfMemory}
+use Rattle.sim_top.proofs.Common.{All, Answer, ap, AreFed, arith, bytes_in, check_outcome, digests_after, Err, File, IfOk, IsAnswerTo, List, Log, match_in, Ok}
+use Rattle.sim_top.proofs.Common.{OnOk, refl, Result, RigsCameBackBy, rules, Setup, shelved, Some, StandForLog, state_after, status_made, Stop, subst, sym}
+use Rattle.sim_top.proofs.Returning.{kind_of_first, rigs_left, room_for, stands_read}
+use Rattle.sim_top.proofs.{Answering.match_ends, Checking.check_ends, Checking.check_opens, Checking.log_ends, Checking.log_goes_on, Checking.log_stands}
+use Rattle.sim_top.proofs.{Common.systems_by, Common.to_check, Common.ℕ, Common.◌∙◌, Common.◌≡◌, Playing.is_made, Playing.made_if, Returning.first_played}
+use Rattle.{sim_laws.specs.TurnLaws.IsOrderOf, sim_top.specs.Outcome.check_by, sim_top.specs.Stops.HasPlayedBy}
+
+-- the digests that were played, beside those of the log
+same_outcome : (r : Result (List (List ℕ)) OutOfMemory) (setup : Setup) (log : Log) (turns : List (List PlayerCommand)) → turns ≡ log.turns
+    → IfOk r (λ played. played ≡ digests_after setup turns) → IfOk r (λ played. check_by log played ≡ check_outcome setup log)
+same_outcome (Ok played) setup log turns same is = ap (check_by log) (is ∙ ap (digests_after setup) same)
+same_outcome (Err none) setup log turns same is = tt
 
 pub returns-in_err-setup-clause-answer : goal.returns-in_err-setup-clause-answer
 returns-in_err-setup-clause-answer g c =
@@ -47,12 +56,21 @@ returns-in_err-log-clause-back g c =
     (rigs_left (λ i v. (goal.System-dyn g (i, v)).meaning v) (Some (to_check c.args.game.now c.args.name.now)) held c.in_err-log.field-0.0 c.args.self.now.rigs
     c.requires)
 
-pub check_log-answer-requires-clause-begins : goal.check_log-answer-requires-clause-begins
-check_log-answer-requires-clause-begins g c = record {
+pub digests_after-played-requires-clause-begins : goal.digests_after-played-requires-clause-begins
+digests_after-played-requires-clause-begins g c = record {
   limits = c.in_ok-setup.ensures.read.good;
   kinds = kind_of_first (λ i v. (goal.System-dyn g (i, v)).meaning v) c.args.self.now.rigs.items c.take_first-rig.new.rigs.items c.take_first-rig.result
       c.take_first-rig.ensures.items c.requires.kinds;
 }
+
+pub digests_after-played-requires-clause-players : goal.digests_after-played-requires-clause-players
+digests_after-played-requires-clause-players g c =
+    subst (All (All (IsOrderOf c.in_ok-setup.setup))) (sym c.as_slice.ensures)
+    (λ k d within j e less. ((c.in_ok-log.ensures.read.good.turns k d within).each j e less).player)
+
+pub compared-requires : goal.compared-requires
+compared-requires g c =
+    omega (arith, c.in_ok-log.ensures.read.good.few, c.in_ok-log.ensures.read.good.one_more, c.in_ok-setup.ensures.read.good.turns)
 
 pub put_first-requires : goal.put_first-requires
 put_first-requires g c =
@@ -61,9 +79,14 @@ put_first-requires g c =
 
 pub returns-clause-answer : goal.returns-clause-answer
 returns-clause-answer g c =
+    let setup = c.in_ok-setup.setup in
+    let log = c.in_ok-log.log in
+    let made_so = is_made c.compared.result c.digests_after-played.result.0 c.compared.ensures.stops c.compared.ensures.refused (check_by log)
+    (check_outcome setup log) (same_outcome c.digests_after-played.result.0 setup log c.as_slice.result.now c.as_slice.ensures
+    c.digests_after-played.ensures.digests) c.compared.ensures.made in
     log_goes_on c.args.game.now c.args.name.now c.in_ok-setup.setup _ _ _ c.in_ok-setup.ensures.read.reading c.in_ok-setup.ensures.tells c.in_ok-log.log
-    c.check_log-answer.result.0
-    c.in_ok-log.ensures.read.reading c.in_ok-log.ensures.tells c.check_log-answer.ensures.made
+    c.compared.result
+    c.in_ok-log.ensures.read.reading c.in_ok-log.ensures.tells made_so
     (check_ends c.args.game.now c.args.name.now c.in_ok-setup.setup c.in_ok-log.log).0
 
 pub returns-clause-back : goal.returns-clause-back
@@ -73,16 +96,29 @@ returns-clause-back g c =
     let setup = c.in_ok-setup.setup in
     let log = c.in_ok-log.log in
     let held = g.S.Shelf.held c.args.shelf.now in
-    let made = c.check_log-answer.result.0 in
-    let last = c.check_log-answer.result.1 in
+    let made = c.compared.result in
+    let last = c.digests_after-played.result.1 in
+    let made_so = is_made c.compared.result c.digests_after-played.result.0 c.compared.ensures.stops c.compared.ensures.refused (check_by log)
+    (check_outcome setup log) (same_outcome c.digests_after-played.result.0 setup log c.as_slice.result.now c.as_slice.ensures
+    c.digests_after-played.ensures.digests) c.compared.ensures.made in
+    let played_so : HasPlayedBy (λ i v. (goal.System-dyn g (i, v)).meaning v) setup (state_after setup log.turns)
+    c.compared.result c.take_first-rig.result last =
+    record {
+      fed = subst (λ (turns : List (List PlayerCommand)). OnOk c.compared.result
+          (AreFed setup (state_after setup turns) (systems_by last (λ i v. (goal.System-dyn g (i, v)).meaning v)))) c.as_slice.ensures
+          (made_if c.compared.result c.digests_after-played.result.0 c.compared.ensures.stops c.compared.ensures.refused _
+          c.digests_after-played.ensures.played.fed);
+      kinds = c.digests_after-played.ensures.played.kinds;
+      most = c.digests_after-played.ensures.played.most;
+    } in
     first_played (λ i v. (goal.System-dyn g (i, v)).meaning v) (to_check game name) held setup (state_after setup log.turns) (check_outcome setup log) made
     c.take_first-rig.result last
     c.take_first-rig.new.rigs.items c.args.self.now.rigs c.put_first.new.rigs c.requires c.take_first-rig.ensures.items c.put_first.ensures.items
     (c.put_first.ensures.room ∙ c.take_first-rig.ensures.room) refl
-    c.check_log-answer.ensures.made (check_ends game name setup log).1 c.check_log-answer.ensures.played
+    made_so (check_ends game name setup log).1 played_so
     (stands_read held (λ files. match_in files game) setup made (λ (files : List File) (setup : Setup). StandForLog setup (bytes_in files name)
     (systems_by last (λ i v. (goal.System-dyn g (i, v)).meaning v)))
     c.in_ok-setup.ensures.tells
     (log_stands game name setup _ _ _ c.in_ok-setup.ensures.read.reading c.in_ok-setup.ensures.tells log made
     (systems_by last (λ i v. (goal.System-dyn g (i, v)).meaning v))
-    c.in_ok-log.ensures.read.reading c.in_ok-log.ensures.tells c.check_log-answer.ensures.played.fed))
+    c.in_ok-log.ensures.read.reading c.in_ok-log.ensures.tells played_so.fed))

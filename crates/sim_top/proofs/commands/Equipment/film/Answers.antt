@@ -1,8 +1,9 @@
 -- The match was read and its states were told, or it could not be read.
-use Rattle.sim_top.proofs.{Answering.match_ends, Answering.match_goes_on, Answering.Opens, Stopping.Then-ended, Stopping.Then-read}
-use Rattle.sim_top.proofs.Common.{printed, RigsCameBackBy, rules, Setup, shelved, status_made, Stop, subst, sym, systems_by, to_film, ◌∙◌}
-use Rattle.sim_top.proofs.Common.{◌≡◌, ℕ, List, Some, Err, Result, refl, after, Answer, AreFed, Done, File, film_text, IsAnswerTo, match_in, Outcome, own_turns}
-use Rattle.sim_top.proofs.Returning.{first_played, kind_of_first, rigs_left, room_for, stands_read, whatever_held}
+use Rattle.sim_top.proofs.Common.{after, Answer, AreFed, Done, Err, File, film_text, IsAnswerTo, List, match_in, Outcome, own_turns, printed, refl, Result}
+use Rattle.sim_top.proofs.Common.{rules, shelved, status_made, subst, sym, systems_by, to_film, ℕ, ◌∙◌, ◌≡◌}
+use Rattle.sim_top.proofs.{Answering.Opens, Answering.match_ends, Answering.match_goes_on, Common.RigsCameBackBy, Common.Setup, Common.Some, Common.Stop}
+use Rattle.sim_top.proofs.{Playing.played_if, Playing.text_made, Returning.first_played, Returning.kind_of_first, Returning.rigs_left, Returning.room_for}
+use Rattle.sim_top.proofs.{Returning.stands_read, Returning.whatever_held, Stopping.Then-ended, Stopping.Then-read}
 use Rattle.sim_top.proofs.commands.Equipment.film.Goals as goal
 
 -- what comes of the match
@@ -38,8 +39,8 @@ returns-in_err-setup-clause-back g c =
     (rigs_left (λ i v. (goal.System-dyn g (i, v)).meaning v) (Some (to_film c.args.game.now c.args.every)) held c.in_err-setup.field-0.0 c.args.self.now.rigs
     c.requires.eight)
 
-pub film_match-answer-requires-clause-begins : goal.film_match-answer-requires-clause-begins
-film_match-answer-requires-clause-begins g c = record {
+pub film_text-text-requires-clause-begins : goal.film_text-text-requires-clause-begins
+film_text-text-requires-clause-begins g c = record {
   limits = c.in_ok-setup.ensures.read.good;
   kinds = kind_of_first (λ i v. (goal.System-dyn g (i, v)).meaning v) c.args.self.now.rigs.items c.take_first-rig.new.rigs.items c.take_first-rig.result
       c.take_first-rig.ensures.items c.requires.eight.kinds;
@@ -55,10 +56,12 @@ returns-clause-answer g c =
     let game = c.args.game.now in
     let every = c.args.every in
     let setup = c.in_ok-setup.setup in
-    match_goes_on (to_film game every) game (λ files. match_in files game) setup (printed Done (film_text setup every)) c.film_match-answer.result.0 _ _
+    let made_so = text_made c.shown.result c.film_text-text.result.0 (film_text setup every) c.shown.ensures.stops c.shown.ensures.refused c.shown.ensures.made
+    c.film_text-text.ensures.text in
+    match_goes_on (to_film game every) game (λ files. match_in files game) setup (printed Done (film_text setup every)) c.shown.result _ _
     (opens game every) c.in_ok-setup.ensures.read.reading c.in_ok-setup.ensures.tells
     (λ files e. Then-read (match_in files game) setup (told every) (printed Done (film_text setup every)) e refl) (λ files. refl)
-    c.film_match-answer.ensures.made (record { status = tt; done = tt; file = tt })
+    made_so (record { status = tt; done = tt; file = tt })
 
 pub returns-clause-back : goal.returns-clause-back
 returns-clause-back g c =
@@ -66,13 +69,18 @@ returns-clause-back g c =
     let every = c.args.every in
     let setup = c.in_ok-setup.setup in
     let held = g.S.Shelf.held c.args.shelf.now in
-    let last = c.film_match-answer.result.1 in
+    let last = c.film_text-text.result.1 in
+    let made_so = text_made c.shown.result c.film_text-text.result.0 (film_text setup every) c.shown.ensures.stops c.shown.ensures.refused c.shown.ensures.made
+    c.film_text-text.ensures.text in
+    let played_so = played_if c.shown.result c.film_text-text.result.0 c.shown.ensures.stops c.shown.ensures.refused
+    (λ i v. (goal.System-dyn g (i, v)).meaning v) setup (after setup (own_turns setup 0 setup.turns))
+    c.take_first-rig.result c.film_text-text.result.1 c.film_text-text.ensures.played in
     first_played (λ i v. (goal.System-dyn g (i, v)).meaning v) (to_film game every) held setup (after setup (own_turns setup 0 setup.turns))
-    (printed Done (film_text setup every)) c.film_match-answer.result.0 c.take_first-rig.result last
+    (printed Done (film_text setup every)) c.shown.result c.take_first-rig.result last
     c.take_first-rig.new.rigs.items c.args.self.now.rigs c.put_first.new.rigs c.requires.eight c.take_first-rig.ensures.items c.put_first.ensures.items
     (c.put_first.ensures.room ∙ c.take_first-rig.ensures.room) refl
-    c.film_match-answer.ensures.made tt c.film_match-answer.ensures.played
-    (stands_read held (λ files. match_in files game) setup c.film_match-answer.result.0
+    made_so tt played_so
+    (stands_read held (λ files. match_in files game) setup c.shown.result
     (λ (files : List File) (setup : Setup). AreFed setup (after setup (own_turns setup 0 setup.turns))
     (systems_by last (λ i v. (goal.System-dyn g (i, v)).meaning v)))
-    c.in_ok-setup.ensures.tells (whatever_held held _ c.film_match-answer.ensures.played.fed))
+    c.in_ok-setup.ensures.tells (whatever_held held _ played_so.fed))

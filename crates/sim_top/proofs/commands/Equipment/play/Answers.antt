@@ -1,9 +1,10 @@
 -- The match was read and played, or it could not be read.
 use Rattle.sim_base.specs.Turn.{first_state}
-use Rattle.sim_top.proofs.{Answering.match_ends, Answering.match_goes_on, Answering.Opens, Stopping.Then-ended, Stopping.Then-read}
-use Rattle.sim_top.proofs.Common.{printed, RigsCameBackBy, rules, Setup, shelved, status_made, Stop, subst, sym, systems_by, to_play, ◌∙◌}
-use Rattle.sim_top.proofs.Common.{◌≡◌, ℕ, List, Some, Err, Result, refl, Answer, AreFed, Done, end_from, File, IsAnswerTo, match_in, Outcome, play_text}
-use Rattle.sim_top.proofs.Returning.{first_played, kind_of_first, rigs_left, room_for, stands_read, whatever_held}
+use Rattle.sim_top.proofs.Common.{Answer, AreFed, Done, end_from, Err, File, IsAnswerTo, List, match_in, Outcome, play_text, printed, refl, Result}
+use Rattle.sim_top.proofs.Common.{rules, shelved, status_made, subst, sym, systems_by, to_play, ℕ, ◌∙◌, ◌≡◌}
+use Rattle.sim_top.proofs.{Answering.Opens, Answering.match_ends, Answering.match_goes_on, Common.RigsCameBackBy, Common.Setup, Common.Some, Common.Stop}
+use Rattle.sim_top.proofs.{Playing.played_if, Playing.text_made, Returning.first_played, Returning.kind_of_first, Returning.rigs_left, Returning.room_for}
+use Rattle.sim_top.proofs.{Returning.stands_read, Returning.whatever_held, Stopping.Then-ended, Stopping.Then-read}
 use Rattle.sim_top.proofs.commands.Equipment.play.Goals as goal
 
 -- what comes of the match
@@ -31,8 +32,8 @@ returns-in_err-setup-clause-back g c =
     c.args.self.now.rigs c.args.self.now.rigs) (sym is)
     (rigs_left (λ i v. (goal.System-dyn g (i, v)).meaning v) (Some (to_play c.args.game.now)) held c.in_err-setup.field-0.0 c.args.self.now.rigs c.requires)
 
-pub play_match-answer-requires : goal.play_match-answer-requires
-play_match-answer-requires g c = record {
+pub play_text-text-requires : goal.play_text-text-requires
+play_text-text-requires g c = record {
   limits = c.in_ok-setup.ensures.read.good;
   kinds = kind_of_first (λ i v. (goal.System-dyn g (i, v)).meaning v) c.args.self.now.rigs.items c.take_first-rig.new.rigs.items c.take_first-rig.result
       c.take_first-rig.ensures.items c.requires.kinds;
@@ -47,9 +48,11 @@ pub returns-clause-answer : goal.returns-clause-answer
 returns-clause-answer g c =
     let game = c.args.game.now in
     let setup = c.in_ok-setup.setup in
-    match_goes_on (to_play game) game (λ files. match_in files game) setup (printed Done (play_text setup)) c.play_match-answer.result.0 _ _ (opens game)
+    let made_so = text_made c.shown.result c.play_text-text.result.0 (play_text setup) c.shown.ensures.stops c.shown.ensures.refused c.shown.ensures.made
+    c.play_text-text.ensures.text in
+    match_goes_on (to_play game) game (λ files. match_in files game) setup (printed Done (play_text setup)) c.shown.result _ _ (opens game)
     c.in_ok-setup.ensures.read.reading c.in_ok-setup.ensures.tells
-    (λ files e. Then-read (match_in files game) setup played (printed Done (play_text setup)) e refl) (λ files. refl) c.play_match-answer.ensures.made
+    (λ files e. Then-read (match_in files game) setup played (printed Done (play_text setup)) e refl) (λ files. refl) made_so
     (record { status = tt; done = tt; file = tt })
 
 pub returns-clause-back : goal.returns-clause-back
@@ -57,13 +60,18 @@ returns-clause-back g c =
     let game = c.args.game.now in
     let setup = c.in_ok-setup.setup in
     let held = g.S.Shelf.held c.args.shelf.now in
-    let last = c.play_match-answer.result.1 in
+    let last = c.play_text-text.result.1 in
+    let made_so = text_made c.shown.result c.play_text-text.result.0 (play_text setup) c.shown.ensures.stops c.shown.ensures.refused c.shown.ensures.made
+    c.play_text-text.ensures.text in
+    let played_so = played_if c.shown.result c.play_text-text.result.0 c.shown.ensures.stops c.shown.ensures.refused
+    (λ i v. (goal.System-dyn g (i, v)).meaning v) setup (end_from setup (first_state setup))
+    c.take_first-rig.result c.play_text-text.result.1 c.play_text-text.ensures.played in
     first_played (λ i v. (goal.System-dyn g (i, v)).meaning v) (to_play game) held setup (end_from setup (first_state setup)) (printed Done (play_text setup))
-    c.play_match-answer.result.0 c.take_first-rig.result last
+    c.shown.result c.take_first-rig.result last
     c.take_first-rig.new.rigs.items c.args.self.now.rigs c.put_first.new.rigs c.requires c.take_first-rig.ensures.items c.put_first.ensures.items
     (c.put_first.ensures.room ∙ c.take_first-rig.ensures.room) refl
-    c.play_match-answer.ensures.made tt c.play_match-answer.ensures.played
-    (stands_read held (λ files. match_in files game) setup c.play_match-answer.result.0
+    made_so tt played_so
+    (stands_read held (λ files. match_in files game) setup c.shown.result
     (λ (files : List File) (setup : Setup). AreFed setup (end_from setup (first_state setup))
     (systems_by last (λ i v. (goal.System-dyn g (i, v)).meaning v)))
-    c.in_ok-setup.ensures.tells (whatever_held held _ c.play_match-answer.ensures.played.fed))
+    c.in_ok-setup.ensures.tells (whatever_held held _ played_so.fed))

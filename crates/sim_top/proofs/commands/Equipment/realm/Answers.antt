@@ -1,10 +1,10 @@
 -- The match was read and played to the turn, or it could not be read, or has not the turn.
-use Rattle.sim_top.proofs.{Playing.realm_done, Playing.realm_past, Stopping.Then-ended, Stopping.Then-read, Stopping.Told}
-use Rattle.sim_top.proofs.Answering.{match_ends, match_goes_on_as, match_there, Opens, turn_ends_at}
-use Rattle.sim_top.proofs.Common.{match_in, MayFinish, NoSuchTurn, Outcome, own_turns, printed, RealmAt, refusal_text, RigsCameBackBy, rules, Setup, shelved}
-use Rattle.sim_top.proofs.Common.{status_made, Stop, subst, sym, systems_by, to_realm, Turn, ◌∙◌}
-use Rattle.sim_top.proofs.Common.{◌≡◌, ℕ, List, Some, Ok, Err, Result, refl, after, Answer, ap, AreFed, File, HasEnded, IsAnswerTo, IsOutcomeOf, IsRealmOutcome}
+use Rattle.sim_top.proofs.Common.{NoSuchTurn, Ok, Outcome, own_turns, printed, RealmAt, refl, refusal_text, Result, RigsCameBackBy, rules, Setup, shelved, Some}
+use Rattle.sim_top.proofs.Common.{after, Answer, ap, AreFed, Err, File, HasEnded, IsAnswerTo, IsOutcomeOf, IsRealmOutcome, List, match_in, MayFinish}
 use Rattle.sim_top.proofs.Returning.{kind_of_first, one_played, rigs_left, room_for, stands_read, was_played_as, whatever_held}
+use Rattle.sim_top.proofs.{Answering.Opens, Common.Stop, Common.Turn, Common.sym, Common.to_realm, Common.ℕ, Common.◌∙◌, Common.◌≡◌, Playing.played_if}
+use Rattle.sim_top.proofs.{Answering.match_ends, Answering.match_goes_on_as, Answering.match_there, Answering.turn_ends_at, Stopping.Then-ended, Stopping.Told}
+use Rattle.sim_top.proofs.{Common.status_made, Common.subst, Common.systems_by, Playing.realm_done, Playing.realm_made, Playing.realm_past, Stopping.Then-read}
 use Rattle.sim_top.proofs.commands.Equipment.realm.Goals as goal
 
 opens : (game : List ℕ) (turn : ℕ) → Opens (to_realm game turn) game (λ files. match_in files game)
@@ -63,8 +63,8 @@ returns-in_err-reached-clause-back g c =
     (rigs_left (λ i v. (goal.System-dyn g (i, v)).meaning v) (Some (to_realm c.args.game.now c.args.turn)) held c.in_err-reached.field-0.0 c.args.self.now.rigs
     c.requires)
 
-pub realm_at-answer-requires : goal.realm_at-answer-requires
-realm_at-answer-requires g c = record {
+pub realm_text-text-requires : goal.realm_text-text-requires
+realm_text-text-requires g c = record {
   limits = c.in_ok-setup.ensures.read.good;
   within = c.in_ok-reached.ensures.within;
   kinds = kind_of_first (λ i v. (goal.System-dyn g (i, v)).meaning v) c.args.self.now.rigs.items c.take_first-rig.new.rigs.items c.take_first-rig.result
@@ -82,10 +82,12 @@ returns-clause-answer g c =
     let turn = c.args.turn in
     let setup = c.in_ok-setup.setup in
     let Told = IsRealmOutcome setup (after setup (own_turns setup 0 turn)) in
-    match_goes_on_as (to_realm game turn) game (λ files. match_in files game) setup Told c.realm_at-answer.result.0 _ _ (opens game turn)
+    let made_so = realm_made setup (after setup (own_turns setup 0 turn)) c.shown.result c.realm_text-text.result.0 c.shown.ensures.stops
+    c.shown.ensures.refused c.shown.ensures.made c.realm_text-text.ensures.text in
+    match_goes_on_as (to_realm game turn) game (λ files. match_in files game) setup Told c.shown.result _ _ (opens game turn)
     c.in_ok-setup.ensures.read.reading c.in_ok-setup.ensures.tells
     (λ files o e is. Then-read (match_in files game) setup (RealmAt turn) o e (realm_done setup turn o c.in_ok-reached.ensures.within is)) (λ files. refl)
-    c.realm_at-answer.ensures.made
+    made_so
     (λ o is. subst (MayFinish (to_realm game turn)) (sym is.printed) (record { status = tt; done = tt; file = tt }))
 
 pub returns-clause-back : goal.returns-clause-back
@@ -95,13 +97,18 @@ returns-clause-back g c =
     let setup = c.in_ok-setup.setup in
     let held = g.S.Shelf.held c.args.shelf.now in
     let state = after setup (own_turns setup 0 turn) in
-    let made = c.realm_at-answer.result.0 in
-    let last = c.realm_at-answer.result.1 in
+    let made = c.shown.result in
+    let last = c.realm_text-text.result.1 in
+    let made_so = realm_made setup (after setup (own_turns setup 0 turn)) c.shown.result c.realm_text-text.result.0 c.shown.ensures.stops
+    c.shown.ensures.refused c.shown.ensures.made c.realm_text-text.ensures.text in
+    let played_so = played_if c.shown.result c.realm_text-text.result.0 c.shown.ensures.stops c.shown.ensures.refused
+    (λ i v. (goal.System-dyn g (i, v)).meaning v) setup (after setup (own_turns setup 0 turn))
+    c.take_first-rig.result c.realm_text-text.result.1 c.realm_text-text.ensures.played in
     one_played (λ i v. (goal.System-dyn g (i, v)).meaning v) (to_realm game turn) held setup state made c.take_first-rig.result last
     c.take_first-rig.new.rigs.items c.args.self.now.rigs c.put_first.new.rigs c.requires c.take_first-rig.ensures.items c.put_first.ensures.items
     (c.put_first.ensures.room ∙ c.take_first-rig.ensures.room) refl
-    (was_played_as (IsRealmOutcome setup state) made c.realm_at-answer.ensures.made (λ o is. subst (λ (o : Outcome). HasEnded o.status) (sym is.printed) tt))
-    c.realm_at-answer.ensures.played
+    (was_played_as (IsRealmOutcome setup state) made made_so (λ o is. subst (λ (o : Outcome). HasEnded o.status) (sym is.printed) tt))
+    played_so
     (stands_read held (λ files. match_in files game) setup made (λ (files : List File) (setup : Setup). AreFed setup (after setup (own_turns setup 0 turn))
     (systems_by last (λ i v. (goal.System-dyn g (i, v)).meaning v)))
-    c.in_ok-setup.ensures.tells (whatever_held held _ c.realm_at-answer.ensures.played.fed))
+    c.in_ok-setup.ensures.tells (whatever_held held _ played_so.fed))

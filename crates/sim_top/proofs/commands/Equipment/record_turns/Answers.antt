@@ -1,10 +1,9 @@
 -- The first rig plays the log, which is written, or there was no memory.
-use Rattle.{sim_base.specs.declared.memory.OutOfMemory.OutOfMemory, sim_base.specs.declared.command.PlayerCommand.PlayerCommand}
-use Rattle.{sim_play.proofs.LogTurns.log_of_turns, sim_replay.specs.Logs.IsOfTurns, sim_top.specs.Rigs.HasPlayedBy}
-use Rattle.sim_top.proofs.Common.{◌≡◌, ◌≤◌, List, length, IfOk, Ok, Err, codes, Result, ap, Log, log_after, logged_as, Outcome, Setup, state_after, sym, ◌∙◌}
-use Rattle.sim_top.proofs.Playing.{is_made, made_if}
-use Rattle.sim_top.proofs.Returning.{behind, firsts_of, kind_of_first, kinds_of_rest, kinds_with, room_for}
 use Rattle.sim_top.proofs.commands.Equipment.record_turns.Goals as goal
+use Rattle.sim_top.proofs.Common.{ap, codes, Err, IfOk, length, List, Log, log_after, logged_as, Ok, Outcome, Result, Setup, state_after, sym, ◌∙◌, ◌≡◌, ◌≤◌}
+use Rattle.sim_top.proofs.Returning.{behind, firsts_of, kind_of_first, kinds_of_rest, kinds_with, room_for}
+use Rattle.{sim_base.specs.declared.command.PlayerCommand.PlayerCommand, sim_base.specs.declared.memory.OutOfMemory.OutOfMemory, sim_top.proofs.Playing.is_made}
+use Rattle.{sim_play.proofs.LogTurns.log_of_turns, sim_replay.specs.Logs.IsOfTurns, sim_top.proofs.Playing.made_if, sim_top.specs.Stops.HasPlayedBy}
 
 same_outcome : (r : Result Log OutOfMemory) (of : Log → Outcome) (log : Log) → IfOk r (λ found. found ≡ log) → IfOk r (λ found. of found ≡ of log)
 same_outcome (Ok found) of log is = ap of is

@@ -1,10 +1,10 @@
 -- The match was read and played by both clients, or it could not be read, or has not the turn.
-use Rattle.sim_top.proofs.{Playing.rejoin_done, Playing.rejoin_past, Stopping.Then-ended, Stopping.Then-read, Stopping.Told}
-use Rattle.sim_top.proofs.Answering.{match_ends, match_goes_on, match_there, Opens, turn_ends_at}
-use Rattle.sim_top.proofs.Common.{match_in, MayFinish, NoSuchTurn, Outcome, own_turns, printed, refusal_text, rejoin_outcome, RigsCameBackBy, rules, Setup}
-use Rattle.sim_top.proofs.Common.{shelved, status_made, Stop, subst, sym, systems_by, to_rejoin, Turn, ◌∙◌}
-use Rattle.sim_top.proofs.Common.{◌≡◌, ℕ, List, ◌∷◌, Some, Ok, Err, Result, refl, after, Answer, ap, AreFed, arith, File, HasEnded, IsAnswerTo, IsOutcomeOf}
+use Rattle.sim_top.proofs.Common.{NoSuchTurn, Ok, Outcome, own_turns, printed, refl, refusal_text, rejoin_outcome, Result, RigsCameBackBy, rules, Setup}
+use Rattle.sim_top.proofs.Common.{after, Answer, ap, AreFed, arith, Done, Err, File, Global, HasEnded, IsAnswerTo, IsOutcomeOf, List, match_in, MayFinish}
+use Rattle.sim_top.proofs.Common.{shelved, Some, status_made, Stop, String, string_bytes, subst, sym, systems_by, to_rejoin, Turn, ℕ, ◌∙◌, ◌∷◌, ◌≡◌}
 use Rattle.sim_top.proofs.Returning.{both_played, kind_of_first, kinds_of_rest, one_less, rigs_left, room_again, room_for, stands_read, whatever_held}
+use Rattle.sim_top.proofs.{Answering.Opens, Playing.is_made, Playing.rejoin_past, Playing.rejoined_is, Stopping.Then-ended, Stopping.Then-read, Stopping.Told}
+use Rattle.sim_top.proofs.{Answering.match_ends, Answering.match_goes_on, Answering.match_there, Answering.turn_ends_at, Playing.played_if, Playing.rejoin_done}
 use Rattle.sim_top.proofs.commands.Equipment.rejoin.Goals as goal
 
 -- what comes of the match
@@ -75,16 +75,16 @@ take_first-second-requires g c =
           c.take_first-first.ensures.items c.requires.count,
     )
 
-pub rejoin_match-answer-requires-clause-first : goal.rejoin_match-answer-requires-clause-first
-rejoin_match-answer-requires-clause-first g c = record {
+pub rejoin_text-text-requires-clause-first : goal.rejoin_text-text-requires-clause-first
+rejoin_text-text-requires-clause-first g c = record {
   limits = c.in_ok-setup.ensures.read.good;
   within = c.in_ok-reached.ensures.within;
   kinds = kind_of_first (λ i v. (goal.System-dyn g (i, v)).meaning v) c.args.self.now.rigs.items c.take_first-first.new.rigs.items c.take_first-first.result
       c.take_first-first.ensures.items c.requires.kinds;
 }
 
-pub rejoin_match-answer-requires-clause-second : goal.rejoin_match-answer-requires-clause-second
-rejoin_match-answer-requires-clause-second g c =
+pub rejoin_text-text-requires-clause-second : goal.rejoin_text-text-requires-clause-second
+rejoin_text-text-requires-clause-second g c =
     kind_of_first (λ i v. (goal.System-dyn g (i, v)).meaning v) c.take_first-first.new.rigs.items c.take_first-second.new.rigs.items c.take_first-second.result
     c.take_first-second.ensures.items
     (kinds_of_rest (λ i v. (goal.System-dyn g (i, v)).meaning v) c.args.self.now.rigs.items c.take_first-first.new.rigs.items c.take_first-first.result
@@ -98,7 +98,7 @@ put_first-requires g c =
 pub put_first-requires-2 : goal.put_first-requires-2
 put_first-requires-2 g c =
     room_again (λ i v. (goal.System-dyn g (i, v)).meaning v) c.args.self.now.rigs c.put_first.new.rigs c.take_first-first.result c.take_first-second.result
-    c.rejoin_match-answer.result.2 c.take_first-second.new.rigs.items
+    c.rejoin_text-text.result.2 c.take_first-second.new.rigs.items
     (c.take_first-first.ensures.items ∙ ap (λ (l : List _). c.take_first-first.result ∷ l) c.take_first-second.ensures.items) c.put_first.ensures.items
     (c.put_first.ensures.room ∙ c.take_first-second.ensures.room ∙ c.take_first-first.ensures.room)
 
@@ -107,9 +107,12 @@ returns-clause-answer g c =
     let game = c.args.game.now in
     let turn = c.args.turn in
     let setup = c.in_ok-setup.setup in
-    match_goes_on (to_rejoin game turn) game (λ files. match_in files game) setup (rejoin_outcome setup turn) c.rejoin_match-answer.result.0 _ _
+    let made_so = is_made c.shown.result c.rejoin_text-text.result.0 c.shown.ensures.stops c.shown.ensures.refused
+    (λ (t : String Global). printed Done (string_bytes t)) (rejoin_outcome setup turn)
+    (rejoined_is setup turn c.rejoin_text-text.result.0 c.in_ok-reached.ensures.within c.rejoin_text-text.ensures.text) c.shown.ensures.made in
+    match_goes_on (to_rejoin game turn) game (λ files. match_in files game) setup (rejoin_outcome setup turn) c.shown.result _ _
     (opens game turn) c.in_ok-setup.ensures.read.reading c.in_ok-setup.ensures.tells
-    (λ files e. Then-read (match_in files game) setup (joined turn) (rejoin_outcome setup turn) e refl) (λ files. refl) c.rejoin_match-answer.ensures.made
+    (λ files e. Then-read (match_in files game) setup (joined turn) (rejoin_outcome setup turn) e refl) (λ files. refl) made_so
     (subst (MayFinish (to_rejoin game turn)) (rejoin_done setup turn c.in_ok-reached.ensures.within) (record { status = tt; done = tt; file = tt }))
 
 pub returns-clause-back : goal.returns-clause-back
@@ -118,23 +121,32 @@ returns-clause-back g c =
     let turn = c.args.turn in
     let setup = c.in_ok-setup.setup in
     let held = g.S.Shelf.held c.args.shelf.now in
-    let made = c.rejoin_match-answer.result.0 in
-    let first = c.rejoin_match-answer.result.1 in
-    let second = c.rejoin_match-answer.result.2 in
+    let made = c.shown.result in
+    let first = c.rejoin_text-text.result.1 in
+    let second = c.rejoin_text-text.result.2 in
     let found = c.in_ok-setup.ensures.tells in
+    let made_so = is_made c.shown.result c.rejoin_text-text.result.0 c.shown.ensures.stops c.shown.ensures.refused
+    (λ (t : String Global). printed Done (string_bytes t)) (rejoin_outcome setup turn)
+    (rejoined_is setup turn c.rejoin_text-text.result.0 c.in_ok-reached.ensures.within c.rejoin_text-text.ensures.text) c.shown.ensures.made in
+    let played_so = played_if c.shown.result c.rejoin_text-text.result.0 c.shown.ensures.stops c.shown.ensures.refused
+    (λ i v. (goal.System-dyn g (i, v)).meaning v) setup (after setup (own_turns setup 0 setup.turns))
+    c.take_first-first.result first c.rejoin_text-text.ensures.played in
+    let joined_so = played_if c.shown.result c.rejoin_text-text.result.0 c.shown.ensures.stops c.shown.ensures.refused
+    (λ i v. (goal.System-dyn g (i, v)).meaning v) setup (after setup (own_turns setup 0 setup.turns))
+    c.take_first-second.result second c.rejoin_text-text.ensures.joined in
     both_played (λ i v. (goal.System-dyn g (i, v)).meaning v) (to_rejoin game turn) held setup (after setup (own_turns setup 0 setup.turns))
     (rejoin_outcome setup turn) made c.take_first-first.result c.take_first-second.result first second
     c.take_first-second.new.rigs.items c.args.self.now.rigs c.put_first-2.new.rigs c.requires
     (c.take_first-first.ensures.items ∙ ap (λ (l : List _). c.take_first-first.result ∷ l) c.take_first-second.ensures.items)
     (c.put_first-2.ensures.items ∙ ap (λ (l : List _). first ∷ l) c.put_first.ensures.items)
     (c.put_first-2.ensures.room ∙ c.put_first.ensures.room ∙ c.take_first-second.ensures.room ∙ c.take_first-first.ensures.room) refl
-    c.rejoin_match-answer.ensures.made (subst (λ (o : Outcome). HasEnded o.status) (rejoin_done setup turn c.in_ok-reached.ensures.within) tt)
-    c.rejoin_match-answer.ensures.played c.rejoin_match-answer.ensures.joined
+    made_so (subst (λ (o : Outcome). HasEnded o.status) (rejoin_done setup turn c.in_ok-reached.ensures.within) tt)
+    played_so joined_so
     (stands_read held (λ files. match_in files game) setup made
     (λ (files : List File) (setup : Setup). AreFed setup (after setup (own_turns setup 0 setup.turns))
     (systems_by first (λ i v. (goal.System-dyn g (i, v)).meaning v))) found
-    (whatever_held held _ c.rejoin_match-answer.ensures.played.fed))
+    (whatever_held held _ played_so.fed))
     (stands_read held (λ files. match_in files game) setup made
     (λ (files : List File) (setup : Setup). AreFed setup (after setup (own_turns setup 0 setup.turns))
     (systems_by second (λ i v. (goal.System-dyn g (i, v)).meaning v))) found
-    (whatever_held held _ c.rejoin_match-answer.ensures.joined.fed))
+    (whatever_held held _ joined_so.fed))

@@ -1,9 +1,9 @@
 -- The match, the state and the explored cells were read and the match played on, or one of them could not be read.
-use Rattle.sim_top.proofs.Answering.{both_given, both_told, match_ends, stored_ends}
-use Rattle.sim_top.proofs.Common.{RigsCameBackBy, rules, Setup, shelved, StandForStored, State, status_made, Stop, subst, sym, systems_by, to_resight, ◌∙◌}
-use Rattle.sim_top.proofs.Common.{◌≡◌, List, Some, Ok, Err, Result, refl, Answer, bytes_in, end_from, File, IsAnswerTo, IsSeenFrom, IsState, match_in}
-use Rattle.sim_top.proofs.Returning.{kind_of_first, one_played, rigs_left, room_for, stands_read, stored_stands, was_played_as}
-use Rattle.sim_top.proofs.Sighting.{loads, map_ends, map_goes_on, seen_ended, with_map}
+use Rattle.sim_top.proofs.Common.{Answer, bytes_in, end_from, Err, File, IsAnswerTo, IsSeenFrom, IsState, List, match_in, Ok, refl, Result, RigsCameBackBy}
+use Rattle.sim_top.proofs.Common.{rules, Setup, shelved, Some, StandForStored, status_made, Stop, subst, sym, systems_by, to_resight, ◌∙◌, ◌≡◌}
+use Rattle.sim_top.proofs.Returning.{one_played, rigs_left, room_for, stands_read, stored_stands, was_played_as}
+use Rattle.sim_top.proofs.Sighting.{loads, map_ends, map_goes_on, seen_ended, sight_made, with_map}
+use Rattle.sim_top.proofs.{Answering.both_given, Answering.both_told, Answering.match_ends, Answering.stored_ends, Playing.played_if, Returning.kind_of_first}
 use Rattle.sim_top.proofs.commands.Equipment.resight.Goals as goal
 
 pub returns-in_err-setup-clause-answer : goal.returns-in_err-setup-clause-answer
@@ -67,8 +67,8 @@ returns-in_err-sight-clause-back g c =
     (rigs_left (λ i v. (goal.System-dyn g (i, v)).meaning v) (Some (to_resight c.args.game.now c.args.name.now c.args.map.now)) held
     c.in_err-sight.field-0.0 c.args.self.now.rigs c.requires)
 
-pub resight_match-answer-requires-clause-resumes : goal.resight_match-answer-requires-clause-resumes
-resight_match-answer-requires-clause-resumes g c = record {
+pub resight_text-text-requires-clause-resumes : goal.resight_text-text-requires-clause-resumes
+resight_text-text-requires-clause-resumes g c = record {
   limits = c.in_ok-setup.ensures.read.good;
   valid = c.in_ok-state.ensures.read.good;
   kinds = kind_of_first (λ i v. (goal.System-dyn g (i, v)).meaning v) c.args.self.now.rigs.items c.take_first-rig.new.rigs.items c.take_first-rig.result
@@ -82,10 +82,12 @@ put_first-requires g c =
 
 pub returns-clause-answer : goal.returns-clause-answer
 returns-clause-answer g c =
+    let made_so = sight_made c.in_ok-setup.setup c.in_ok-state.state c.in_ok-sight.sight c.shown.result c.resight_text-text.result.0 c.shown.ensures.stops
+    c.shown.ensures.refused c.shown.ensures.made c.resight_text-text.ensures.text in
     map_goes_on c.args.game.now c.args.name.now c.args.map.now c.in_ok-setup.setup c.in_ok-state.state _ _ _ _ c.in_ok-setup.ensures.read.reading
     c.in_ok-state.ensures.read.reading
-    c.in_ok-setup.ensures.tells c.in_ok-state.ensures.tells c.in_ok-sight.sight c.resight_match-answer.result.0 c.in_ok-sight.ensures.read.reading
-    c.in_ok-sight.ensures.tells c.resight_match-answer.ensures.made
+    c.in_ok-setup.ensures.tells c.in_ok-state.ensures.tells c.in_ok-sight.sight c.shown.result c.in_ok-sight.ensures.read.reading
+    c.in_ok-sight.ensures.tells made_so
 
 pub returns-clause-back : goal.returns-clause-back
 returns-clause-back g c =
@@ -95,16 +97,21 @@ returns-clause-back g c =
     let setup = c.in_ok-setup.setup in
     let state = c.in_ok-state.state in
     let held = g.S.Shelf.held c.args.shelf.now in
-    let made = c.resight_match-answer.result.0 in
-    let last = c.resight_match-answer.result.1 in
+    let made = c.shown.result in
+    let last = c.resight_text-text.result.1 in
     let Seen = IsSeenFrom setup state c.in_ok-sight.sight in
+    let made_so = sight_made c.in_ok-setup.setup c.in_ok-state.state c.in_ok-sight.sight c.shown.result c.resight_text-text.result.0 c.shown.ensures.stops
+    c.shown.ensures.refused c.shown.ensures.made c.resight_text-text.ensures.text in
+    let played_so = played_if c.shown.result c.resight_text-text.result.0 c.shown.ensures.stops c.shown.ensures.refused
+    (λ i v. (goal.System-dyn g (i, v)).meaning v) setup (end_from setup state)
+    c.take_first-rig.result c.resight_text-text.result.1 c.resight_text-text.ensures.played in
     one_played (λ i v. (goal.System-dyn g (i, v)).meaning v) (to_resight game name map) held setup (end_from setup state) made c.take_first-rig.result last
     c.take_first-rig.new.rigs.items c.args.self.now.rigs c.put_first.new.rigs c.requires c.take_first-rig.ensures.items c.put_first.ensures.items
     (c.put_first.ensures.room ∙ c.take_first-rig.ensures.room) refl
-    (was_played_as Seen made c.resight_match-answer.ensures.made (seen_ended setup state c.in_ok-sight.sight)) c.resight_match-answer.ensures.played
+    (was_played_as Seen made made_so (seen_ended setup state c.in_ok-sight.sight)) played_so
     (stands_read held (λ files. match_in files game) setup made (λ (files : List File) (setup : Setup). StandForStored setup (bytes_in files name)
     (systems_by last (λ i v. (goal.System-dyn g (i, v)).meaning v))) c.in_ok-setup.ensures.tells
     (stored_stands held made setup state name (systems_by last (λ i v. (goal.System-dyn g (i, v)).meaning v))
     (both_told game name setup (Ok state) _ _ _ c.in_ok-setup.ensures.read.reading c.in_ok-state.ensures.read.reading
     (λ files. IsState setup (bytes_in files name) state) c.in_ok-state.ensures.tells)
-    c.resight_match-answer.ensures.played.fed))
+    played_so.fed))

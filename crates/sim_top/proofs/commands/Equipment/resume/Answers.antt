@@ -1,9 +1,9 @@
 -- The match and the state were read and played on, or one could not be read.
-use Rattle.sim_top.proofs.{Common.to_resume, Common.◌∙◌, Stopping.Then-ended}
-use Rattle.sim_top.proofs.Answering.{both_given, both_told, Loads, match_ends, stored_ends, stored_goes_on}
-use Rattle.sim_top.proofs.Common.{printed, resume_text, RigsCameBackBy, rules, Setup, shelved, StandForStored, State, status_made, Stop, subst, sym, systems_by}
-use Rattle.sim_top.proofs.Common.{◌≡◌, ℕ, List, Some, Ok, Err, Result, refl, Answer, bytes_in, Done, end_from, File, IsAnswerTo, IsState, match_in, Outcome}
-use Rattle.sim_top.proofs.Returning.{first_played, kind_of_first, rigs_left, room_for, stands_read, stored_stands}
+use Rattle.sim_top.proofs.Common.{Answer, bytes_in, Done, end_from, Err, File, IsAnswerTo, IsState, List, match_in, Ok, Outcome, printed, refl, Result}
+use Rattle.sim_top.proofs.Common.{resume_text, RigsCameBackBy, rules, Setup, shelved, Some, StandForStored, State, status_made, Stop, subst, sym, systems_by}
+use Rattle.sim_top.proofs.{Answering.Loads, Common.to_resume, Common.◌∙◌, Common.◌≡◌, Playing.played_if, Playing.text_made, Returning.room_for}
+use Rattle.sim_top.proofs.{Answering.both_given, Answering.both_told, Answering.match_ends, Returning.rigs_left, Returning.stands_read, Stopping.Then-ended}
+use Rattle.sim_top.proofs.{Answering.stored_ends, Answering.stored_goes_on, Common.ℕ, Returning.first_played, Returning.kind_of_first, Returning.stored_stands}
 use Rattle.sim_top.proofs.commands.Equipment.resume.Goals as goal
 
 -- what comes of the state
@@ -61,8 +61,8 @@ returns-in_err-state-clause-back g c =
     c.args.self.now.rigs
     c.requires)
 
-pub resume_match-answer-requires : goal.resume_match-answer-requires
-resume_match-answer-requires g c = record {
+pub resume_text-text-requires : goal.resume_text-text-requires
+resume_text-text-requires g c = record {
   limits = c.in_ok-setup.ensures.read.good;
   valid = c.in_ok-state.ensures.read.good;
   kinds = kind_of_first (λ i v. (goal.System-dyn g (i, v)).meaning v) c.args.self.now.rigs.items c.take_first-rig.new.rigs.items c.take_first-rig.result
@@ -80,10 +80,12 @@ returns-clause-answer g c =
     let name = c.args.name.now in
     let setup = c.in_ok-setup.setup in
     let state = c.in_ok-state.state in
+    let made_so = text_made c.shown.result c.resume_text-text.result.0 (resume_text setup state) c.shown.ensures.stops c.shown.ensures.refused
+    c.shown.ensures.made c.resume_text-text.ensures.text in
     stored_goes_on (to_resume game name) game name resumed (loads game name) setup _ _ _ c.in_ok-setup.ensures.read.reading c.in_ok-setup.ensures.tells state
     (printed Done (resume_text setup state))
-    c.resume_match-answer.result.0 c.in_ok-state.ensures.read.reading c.in_ok-state.ensures.tells (λ files. refl) (λ files. refl)
-    c.resume_match-answer.ensures.made
+    c.shown.result c.in_ok-state.ensures.read.reading c.in_ok-state.ensures.tells (λ files. refl) (λ files. refl)
+    made_so
     (record { status = tt; done = tt; file = tt })
 
 pub returns-clause-back : goal.returns-clause-back
@@ -93,17 +95,22 @@ returns-clause-back g c =
     let setup = c.in_ok-setup.setup in
     let state = c.in_ok-state.state in
     let held = g.S.Shelf.held c.args.shelf.now in
-    let made = c.resume_match-answer.result.0 in
-    let last = c.resume_match-answer.result.1 in
+    let made = c.shown.result in
+    let last = c.resume_text-text.result.1 in
+    let made_so = text_made c.shown.result c.resume_text-text.result.0 (resume_text setup state) c.shown.ensures.stops c.shown.ensures.refused
+    c.shown.ensures.made c.resume_text-text.ensures.text in
+    let played_so = played_if c.shown.result c.resume_text-text.result.0 c.shown.ensures.stops c.shown.ensures.refused
+    (λ i v. (goal.System-dyn g (i, v)).meaning v) setup (end_from setup state)
+    c.take_first-rig.result c.resume_text-text.result.1 c.resume_text-text.ensures.played in
     first_played (λ i v. (goal.System-dyn g (i, v)).meaning v) (to_resume game name) held setup (end_from setup state) (printed Done (resume_text setup state))
     made c.take_first-rig.result last
     c.take_first-rig.new.rigs.items c.args.self.now.rigs c.put_first.new.rigs c.requires c.take_first-rig.ensures.items c.put_first.ensures.items
     (c.put_first.ensures.room ∙ c.take_first-rig.ensures.room) refl
-    c.resume_match-answer.ensures.made tt c.resume_match-answer.ensures.played
+    made_so tt played_so
     (stands_read held (λ files. match_in files game) setup made (λ (files : List File) (setup : Setup). StandForStored setup (bytes_in files name)
     (systems_by last (λ i v. (goal.System-dyn g (i, v)).meaning v))) c.in_ok-setup.ensures.tells
     (stored_stands held made setup state name (systems_by last (λ i v. (goal.System-dyn g (i, v)).meaning v))
     (both_told game name setup (Ok state) _ _ _ c.in_ok-setup.ensures.read.reading c.in_ok-state.ensures.read.reading
     (λ files. IsState setup (bytes_in files name) state)
     c.in_ok-state.ensures.tells)
-    c.resume_match-answer.ensures.played.fed))
+    played_so.fed))

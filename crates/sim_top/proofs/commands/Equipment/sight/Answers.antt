@@ -1,10 +1,10 @@
 -- The match was read and a sight followed it to the turn, or it could not be read, or has not the turn.
-use Rattle.sim_top.proofs.{Sighting.sight_done, Sighting.sight_past, Stopping.Then-ended, Stopping.Then-read, Stopping.Told}
-use Rattle.sim_top.proofs.Answering.{match_ends, match_goes_on, match_there, Opens, turn_ends_at}
-use Rattle.sim_top.proofs.Common.{MayFinish, NoSuchTurn, Outcome, own_turns, printed, refusal_text, RigsCameBackBy, rules, Setup, shelved, sight_outcome}
-use Rattle.sim_top.proofs.Common.{status_made, Stop, subst, sym, systems_by, to_sight, Turn, ◌∙◌}
-use Rattle.sim_top.proofs.Common.{◌≡◌, ℕ, List, Some, Ok, Err, Result, refl, after, Answer, ap, AreFed, File, HasEnded, IsAnswerTo, IsOutcomeOf, match_in}
+use Rattle.sim_top.proofs.Common.{Outcome, own_turns, printed, refl, refusal_text, Result, RigsCameBackBy, rules, seen_with, Setup, shelved, sight_outcome}
+use Rattle.sim_top.proofs.Common.{Some, status_made, Stop, String, string_bytes, subst, sym, systems_by, to_sight, Turn, Vec, ℕ, ◌∙◌, ◌≡◌}
+use Rattle.sim_top.proofs.Common.{after, Answer, ap, AreFed, Err, File, Global, HasEnded, IsAnswerTo, IsOutcomeOf, List, match_in, MayFinish, NoSuchTurn, Ok}
 use Rattle.sim_top.proofs.Returning.{first_played, kind_of_first, rigs_left, room_for, stands_read, whatever_held}
+use Rattle.sim_top.proofs.{Answering.Opens, Playing.is_made, Sighting.sight_past, Sighting.sighted_is, Stopping.Then-ended, Stopping.Then-read, Stopping.Told}
+use Rattle.sim_top.proofs.{Answering.match_ends, Answering.match_goes_on, Answering.match_there, Answering.turn_ends_at, Playing.played_if, Sighting.sight_done}
 use Rattle.sim_top.proofs.commands.Equipment.sight.Goals as goal
 
 -- what comes of the match
@@ -69,8 +69,8 @@ returns-in_err-reached-clause-back g c =
     (rigs_left (λ i v. (goal.System-dyn g (i, v)).meaning v) (Some (to_sight c.args.game.now c.args.turn c.args.out.now)) held c.in_err-reached.field-0.0
     c.args.self.now.rigs c.requires)
 
-pub seen_at-answer-requires : goal.seen_at-answer-requires
-seen_at-answer-requires g c = record {
+pub sight_at-told-requires : goal.sight_at-told-requires
+sight_at-told-requires g c = record {
   limits = c.in_ok-setup.ensures.read.good;
   within = c.in_ok-reached.ensures.within;
   kinds = kind_of_first (λ i v. (goal.System-dyn g (i, v)).meaning v) c.args.self.now.rigs.items c.take_first-rig.new.rigs.items c.take_first-rig.result
@@ -88,9 +88,13 @@ returns-clause-answer g c =
     let turn = c.args.turn in
     let out = c.args.out.now in
     let setup = c.in_ok-setup.setup in
-    match_goes_on (to_sight game turn out) game (λ files. match_in files game) setup (sight_outcome setup turn out) c.seen_at-answer.result.0 _ _
+    let made_so = is_made c.kept_sight.result c.sight_at-told.result.0 c.kept_sight.ensures.stops c.kept_sight.ensures.refused
+    (λ (t : String Global × Vec ℕ Global). seen_with (string_bytes t.0) out t.1.items) (sight_outcome setup turn out)
+    (sighted_is setup turn out c.sight_at-told.result.0 c.in_ok-reached.ensures.within c.sight_at-told.ensures.text c.sight_at-told.ensures.file)
+    c.kept_sight.ensures.made in
+    match_goes_on (to_sight game turn out) game (λ files. match_in files game) setup (sight_outcome setup turn out) c.kept_sight.result _ _
     (opens game turn out) c.in_ok-setup.ensures.read.reading c.in_ok-setup.ensures.tells
-    (λ files e. Then-read (match_in files game) setup (kept turn out) (sight_outcome setup turn out) e refl) (λ files. refl) c.seen_at-answer.ensures.made
+    (λ files e. Then-read (match_in files game) setup (kept turn out) (sight_outcome setup turn out) e refl) (λ files. refl) made_so
     (subst (MayFinish (to_sight game turn out)) (sight_done setup turn out c.in_ok-reached.ensures.within) (record { status = tt; done = tt; file = refl }))
 
 pub returns-clause-back : goal.returns-clause-back
@@ -100,14 +104,21 @@ returns-clause-back g c =
     let out = c.args.out.now in
     let setup = c.in_ok-setup.setup in
     let held = g.S.Shelf.held c.args.shelf.now in
-    let last = c.seen_at-answer.result.1 in
+    let last = c.sight_at-told.result.1 in
+    let made_so = is_made c.kept_sight.result c.sight_at-told.result.0 c.kept_sight.ensures.stops c.kept_sight.ensures.refused
+    (λ (t : String Global × Vec ℕ Global). seen_with (string_bytes t.0) out t.1.items) (sight_outcome setup turn out)
+    (sighted_is setup turn out c.sight_at-told.result.0 c.in_ok-reached.ensures.within c.sight_at-told.ensures.text c.sight_at-told.ensures.file)
+    c.kept_sight.ensures.made in
+    let played_so = played_if c.kept_sight.result c.sight_at-told.result.0 c.kept_sight.ensures.stops c.kept_sight.ensures.refused
+    (λ i v. (goal.System-dyn g (i, v)).meaning v) setup (after setup (own_turns setup 0 turn))
+    c.take_first-rig.result c.sight_at-told.result.1 c.sight_at-told.ensures.played in
     first_played (λ i v. (goal.System-dyn g (i, v)).meaning v) (to_sight game turn out) held setup (after setup (own_turns setup 0 turn))
-    (sight_outcome setup turn out) c.seen_at-answer.result.0 c.take_first-rig.result last
+    (sight_outcome setup turn out) c.kept_sight.result c.take_first-rig.result last
     c.take_first-rig.new.rigs.items c.args.self.now.rigs c.put_first.new.rigs c.requires c.take_first-rig.ensures.items c.put_first.ensures.items
     (c.put_first.ensures.room ∙ c.take_first-rig.ensures.room) refl
-    c.seen_at-answer.ensures.made (subst (λ (o : Outcome). HasEnded o.status) (sight_done setup turn out c.in_ok-reached.ensures.within) tt)
-    c.seen_at-answer.ensures.played
-    (stands_read held (λ files. match_in files game) setup c.seen_at-answer.result.0
+    made_so (subst (λ (o : Outcome). HasEnded o.status) (sight_done setup turn out c.in_ok-reached.ensures.within) tt)
+    played_so
+    (stands_read held (λ files. match_in files game) setup c.kept_sight.result
     (λ (files : List File) (setup : Setup). AreFed setup (after setup (own_turns setup 0 turn))
     (systems_by last (λ i v. (goal.System-dyn g (i, v)).meaning v)))
-    c.in_ok-setup.ensures.tells (whatever_held held _ c.seen_at-answer.ensures.played.fed))
+    c.in_ok-setup.ensures.tells (whatever_held held _ played_so.fed))

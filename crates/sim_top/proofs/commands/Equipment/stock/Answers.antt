@@ -1,8 +1,9 @@
 -- The match and its economy were read and the one was played by the other, or one could not be read.
-use Rattle.sim_top.proofs.{Answering.match_ends, Stocking.economy_ends, Stocking.economy_goes_on, Stocking.paid_stands, Stocking.stock_opens}
-use Rattle.sim_top.proofs.Common.{Setup, shelved, StandForPaid, status_made, stock_text, Stop, subst, sym, systems_by, to_stock, ◌∙◌}
-use Rattle.sim_top.proofs.Common.{◌≡◌, List, Some, Err, Result, refl, Answer, Done, File, IsAnswerTo, match_in, paid_state, printed, RigsCameBackBy, rules}
-use Rattle.sim_top.proofs.Returning.{first_played, kind_of_first, rigs_left, room_for, stands_read}
+use Rattle.sim_top.proofs.Common.{Answer, Done, Err, File, IsAnswerTo, List, match_in, paid_state, printed, refl, Result, RigsCameBackBy, rules, Setup, shelved}
+use Rattle.sim_top.proofs.Stocking.{economy_goes_on, paid_stands, stock_opens}
+use Rattle.sim_top.proofs.{Answering.match_ends, Common.Some, Common.StandForPaid, Common.Stop, Common.status_made, Common.stock_text, Common.subst, Common.sym}
+use Rattle.sim_top.proofs.{Common.systems_by, Common.to_stock, Common.◌∙◌, Common.◌≡◌, Playing.played_if, Playing.text_made, Returning.first_played}
+use Rattle.sim_top.proofs.{Returning.kind_of_first, Returning.rigs_left, Returning.room_for, Returning.stands_read, Stocking.economy_ends}
 use Rattle.sim_top.proofs.commands.Equipment.stock.Goals as goal
 
 pub returns-in_err-setup-clause-answer : goal.returns-in_err-setup-clause-answer
@@ -47,8 +48,8 @@ returns-in_err-economy-clause-back g c =
     c.args.self.now.rigs
     c.requires)
 
-pub stock_match-answer-requires-clause-begins : goal.stock_match-answer-requires-clause-begins
-stock_match-answer-requires-clause-begins g c = record {
+pub stock_text-text-requires-clause-begins : goal.stock_text-text-requires-clause-begins
+stock_text-text-requires-clause-begins g c = record {
   limits = c.in_ok-setup.ensures.read.good;
   kinds = kind_of_first (λ i v. (goal.System-dyn g (i, v)).meaning v) c.args.self.now.rigs.items c.take_first-rig.new.rigs.items c.take_first-rig.result
       c.take_first-rig.ensures.items c.requires.kinds;
@@ -61,10 +62,12 @@ put_first-requires g c =
 
 pub returns-clause-answer : goal.returns-clause-answer
 returns-clause-answer g c =
+    let made_so = text_made c.shown.result c.stock_text-text.result.0 (stock_text c.in_ok-setup.setup c.in_ok-economy.economy) c.shown.ensures.stops
+    c.shown.ensures.refused c.shown.ensures.made c.stock_text-text.ensures.text in
     economy_goes_on c.args.game.now c.args.name.now c.in_ok-setup.setup _ _ _ c.in_ok-setup.ensures.read.reading c.in_ok-setup.ensures.tells
     c.in_ok-economy.economy
-    c.stock_match-answer.result.0
-    c.in_ok-economy.ensures.read.reading c.in_ok-economy.ensures.tells c.stock_match-answer.ensures.made
+    c.shown.result
+    c.in_ok-economy.ensures.read.reading c.in_ok-economy.ensures.tells made_so
 
 pub returns-clause-back : goal.returns-clause-back
 returns-clause-back g c =
@@ -73,16 +76,21 @@ returns-clause-back g c =
     let setup = c.in_ok-setup.setup in
     let economy = c.in_ok-economy.economy in
     let held = g.S.Shelf.held c.args.shelf.now in
-    let made = c.stock_match-answer.result.0 in
-    let last = c.stock_match-answer.result.1 in
+    let made = c.shown.result in
+    let last = c.stock_text-text.result.1 in
+    let made_so = text_made c.shown.result c.stock_text-text.result.0 (stock_text c.in_ok-setup.setup c.in_ok-economy.economy) c.shown.ensures.stops
+    c.shown.ensures.refused c.shown.ensures.made c.stock_text-text.ensures.text in
+    let played_so = played_if c.shown.result c.stock_text-text.result.0 c.shown.ensures.stops c.shown.ensures.refused
+    (λ i v. (goal.System-dyn g (i, v)).meaning v) setup (paid_state setup economy setup.turns)
+    c.take_first-rig.result c.stock_text-text.result.1 c.stock_text-text.ensures.played in
     first_played (λ i v. (goal.System-dyn g (i, v)).meaning v) (to_stock game name) held setup (paid_state setup economy setup.turns)
     (printed Done (stock_text setup economy)) made c.take_first-rig.result last
     c.take_first-rig.new.rigs.items c.args.self.now.rigs c.put_first.new.rigs c.requires c.take_first-rig.ensures.items c.put_first.ensures.items
     (c.put_first.ensures.room ∙ c.take_first-rig.ensures.room) refl
-    c.stock_match-answer.ensures.made tt c.stock_match-answer.ensures.played
+    made_so tt played_so
     (stands_read held (λ files. match_in files game) setup made (λ (files : List File) (setup : Setup). StandForPaid files name setup
     (systems_by last (λ i v. (goal.System-dyn g (i, v)).meaning v)))
     c.in_ok-setup.ensures.tells
     (paid_stands game name setup _ _ _ c.in_ok-setup.ensures.read.reading c.in_ok-setup.ensures.tells economy made
     (systems_by last (λ i v. (goal.System-dyn g (i, v)).meaning v))
-    c.in_ok-economy.ensures.read.reading c.in_ok-economy.ensures.tells c.stock_match-answer.ensures.played.fed))
+    c.in_ok-economy.ensures.read.reading c.in_ok-economy.ensures.tells played_so.fed))

@@ -1,10 +1,10 @@
 -- The match was read and its state stored, or it could not be read, or has not the turn.
-use Rattle.sim_top.proofs.{Playing.store_done, Playing.store_past, Stopping.Then-ended, Stopping.Then-read, Stopping.Told}
-use Rattle.sim_top.proofs.Answering.{match_ends, match_goes_on, match_there, Opens, turn_ends_at}
-use Rattle.sim_top.proofs.Common.{MayFinish, NoSuchTurn, Outcome, own_turns, printed, refusal_text, RigsCameBackBy, rules, Setup, shelved, status_made, Stop}
-use Rattle.sim_top.proofs.Common.{store_outcome, subst, sym, systems_by, to_store, Turn, ◌∙◌}
-use Rattle.sim_top.proofs.Common.{◌≡◌, ℕ, List, Some, Ok, Err, Result, refl, after, Answer, ap, AreFed, File, HasEnded, IsAnswerTo, IsOutcomeOf, match_in}
+use Rattle.sim_top.proofs.Common.{after, Answer, ap, AreFed, Err, File, HasEnded, IsAnswerTo, IsOutcomeOf, List, match_in, MayFinish, NoSuchTurn, Ok, Outcome}
+use Rattle.sim_top.proofs.Common.{own_turns, printed, refl, refusal_text, Result, RigsCameBackBy, rules, Setup, shelved, Some, State, status_made, Stop}
+use Rattle.sim_top.proofs.Common.{store_outcome, stored_at, subst, sym, systems_by, to_store, Turn, ℕ, ◌∙◌, ◌≡◌}
 use Rattle.sim_top.proofs.Returning.{first_played, kind_of_first, rigs_left, room_for, stands_read, whatever_held}
+use Rattle.sim_top.proofs.{Answering.Opens, Answering.match_ends, Answering.match_goes_on, Answering.match_there, Answering.turn_ends_at, Playing.is_made}
+use Rattle.sim_top.proofs.{Playing.played_if, Playing.store_done, Playing.store_past, Playing.stored_is, Stopping.Then-ended, Stopping.Then-read, Stopping.Told}
 use Rattle.sim_top.proofs.commands.Equipment.store.Goals as goal
 
 -- what comes of the match
@@ -67,8 +67,8 @@ returns-in_err-reached-clause-back g c =
     (rigs_left (λ i v. (goal.System-dyn g (i, v)).meaning v) (Some (to_store c.args.game.now c.args.turn c.args.out.now)) held c.in_err-reached.field-0.0
     c.args.self.now.rigs c.requires)
 
-pub stored_at-answer-requires : goal.stored_at-answer-requires
-stored_at-answer-requires g c = record {
+pub state_at-state-requires : goal.state_at-state-requires
+state_at-state-requires g c = record {
   limits = c.in_ok-setup.ensures.read.good;
   within = c.in_ok-reached.ensures.within;
   kinds = kind_of_first (λ i v. (goal.System-dyn g (i, v)).meaning v) c.args.self.now.rigs.items c.take_first-rig.new.rigs.items c.take_first-rig.result
@@ -86,9 +86,12 @@ returns-clause-answer g c =
     let turn = c.args.turn in
     let out = c.args.out.now in
     let setup = c.in_ok-setup.setup in
-    match_goes_on (to_store game turn out) game (λ files. match_in files game) setup (store_outcome setup turn out) c.stored_at-answer.result.0 _ _
+    let made_so = is_made c.kept_state.result c.state_at-state.result.0 c.kept_state.ensures.stops c.kept_state.ensures.refused
+    (λ (s : State). stored_at setup s.turn out s) (store_outcome setup turn out)
+    (stored_is setup turn out c.state_at-state.result.0 c.in_ok-reached.ensures.within c.state_at-state.ensures.state) c.kept_state.ensures.made in
+    match_goes_on (to_store game turn out) game (λ files. match_in files game) setup (store_outcome setup turn out) c.kept_state.result _ _
     (opens game turn out) c.in_ok-setup.ensures.read.reading c.in_ok-setup.ensures.tells
-    (λ files e. Then-read (match_in files game) setup (kept turn out) (store_outcome setup turn out) e refl) (λ files. refl) c.stored_at-answer.ensures.made
+    (λ files e. Then-read (match_in files game) setup (kept turn out) (store_outcome setup turn out) e refl) (λ files. refl) made_so
     (subst (MayFinish (to_store game turn out)) (store_done setup turn out c.in_ok-reached.ensures.within) (record { status = tt; done = tt; file = refl }))
 
 pub returns-clause-back : goal.returns-clause-back
@@ -98,14 +101,20 @@ returns-clause-back g c =
     let out = c.args.out.now in
     let setup = c.in_ok-setup.setup in
     let held = g.S.Shelf.held c.args.shelf.now in
-    let last = c.stored_at-answer.result.1 in
+    let last = c.state_at-state.result.1 in
+    let made_so = is_made c.kept_state.result c.state_at-state.result.0 c.kept_state.ensures.stops c.kept_state.ensures.refused
+    (λ (s : State). stored_at setup s.turn out s) (store_outcome setup turn out)
+    (stored_is setup turn out c.state_at-state.result.0 c.in_ok-reached.ensures.within c.state_at-state.ensures.state) c.kept_state.ensures.made in
+    let played_so = played_if c.kept_state.result c.state_at-state.result.0 c.kept_state.ensures.stops c.kept_state.ensures.refused
+    (λ i v. (goal.System-dyn g (i, v)).meaning v) setup (after setup (own_turns setup 0 turn))
+    c.take_first-rig.result c.state_at-state.result.1 c.state_at-state.ensures.played in
     first_played (λ i v. (goal.System-dyn g (i, v)).meaning v) (to_store game turn out) held setup (after setup (own_turns setup 0 turn))
-    (store_outcome setup turn out) c.stored_at-answer.result.0 c.take_first-rig.result last
+    (store_outcome setup turn out) c.kept_state.result c.take_first-rig.result last
     c.take_first-rig.new.rigs.items c.args.self.now.rigs c.put_first.new.rigs c.requires c.take_first-rig.ensures.items c.put_first.ensures.items
     (c.put_first.ensures.room ∙ c.take_first-rig.ensures.room) refl
-    c.stored_at-answer.ensures.made (subst (λ (o : Outcome). HasEnded o.status) (store_done setup turn out c.in_ok-reached.ensures.within) tt)
-    c.stored_at-answer.ensures.played
-    (stands_read held (λ files. match_in files game) setup c.stored_at-answer.result.0
+    made_so (subst (λ (o : Outcome). HasEnded o.status) (store_done setup turn out c.in_ok-reached.ensures.within) tt)
+    played_so
+    (stands_read held (λ files. match_in files game) setup c.kept_state.result
     (λ (files : List File) (setup : Setup). AreFed setup (after setup (own_turns setup 0 turn))
     (systems_by last (λ i v. (goal.System-dyn g (i, v)).meaning v)))
-    c.in_ok-setup.ensures.tells (whatever_held held _ c.stored_at-answer.ensures.played.fed))
+    c.in_ok-setup.ensures.tells (whatever_held held _ played_so.fed))

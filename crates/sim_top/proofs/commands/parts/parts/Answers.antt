@@ -2,7 +2,6 @@
 use Rattle.sim_top.proofs.{Answering.match_ends, Answering.match_goes_on, Answering.Opens, Common.Stop, Common.subst, Common.sym, Common.to_parts}
 use Rattle.sim_top.proofs.{Playing.text_made, Stopping.Then-ended, Stopping.Then-read}
 use Rattle.sim_top.proofs.Common.{◌≡◌, ℕ, List, Err, Result, refl, Answer, Done, IsAnswerTo, match_in, Outcome, parts_text, printed, rules, Setup, shelved}
-use Rattle.sim_top.proofs.commands.parts.parts.Goals as goal
 
 -- what comes of the match
 abbrev told : Setup → Outcome → Type 0
@@ -11,7 +10,7 @@ told setup wanted = wanted ≡ printed Done (parts_text setup.templates)
 opens : (game : List ℕ) → Opens (to_parts game) game (λ files. match_in files game)
 opens game = record { fails = λ files o e. Then-ended (match_in files game) told o e; first = λ files. refl; lacks = λ files h. h; reads = refl; has = refl }
 
-pub returns-in_err-setup : goal.returns-in_err-setup
+pub returns-in_err-setup : Rattle.sim_top.proofs.commands.parts.parts.Goals.returns-in_err-setup
 returns-in_err-setup g c =
     let is : c.from_residual.result ≡ Err c.in_err-setup.field-0.0 = search rules in
     let game = c.args.game.now in
@@ -21,7 +20,7 @@ returns-in_err-setup g c =
     (match_ends (to_parts game) game (λ files. match_in files game) c.in_err-setup.field-0.0 before now (opens game) c.in_err-setup.ensures.read.stops
     c.in_err-setup.ensures.tells c.in_err-setup.ensures.read.reading)
 
-pub returns : goal.returns
+pub returns : Rattle.sim_top.proofs.commands.parts.parts.Goals.returns
 returns g c =
     let game = c.args.game.now in
     let setup = c.in_ok-setup.setup in

@@ -3,13 +3,12 @@ use Rattle.sim_session.specs.Served.{served_text}
 use Rattle.sim_top.proofs.{Answering.comes_to, Answering.list_ends_at, Common.shelved, Common.Stop, Common.Stopped, Common.subst, Common.sym, Common.to_serve}
 use Rattle.sim_top.proofs.{Playing.text_made, Stopping.Stopped-weaker, Stopping.Then-ended, Stopping.Then-read, Stopping.Told}
 use Rattle.sim_top.proofs.Common.{◌≡◌, Some, Ok, Err, Result, refl, Answer, Done, IsAnswerTo, IsOutcomeOf, Outcome, printed, rules, Schedule, schedule_in}
-use Rattle.sim_top.proofs.commands.serving.serve.Goals as goal
 
 -- what comes of the schedule
 abbrev served : Schedule → Outcome → Type 0
 served schedule wanted = wanted ≡ printed Done (served_text schedule)
 
-pub returns-in_err-schedule : goal.returns-in_err-schedule
+pub returns-in_err-schedule : Rattle.sim_top.proofs.commands.serving.serve.Goals.returns-in_err-schedule
 returns-in_err-schedule g c =
     let is : c.from_residual.result ≡ Err c.in_err-schedule.field-0.0 = search rules in
     let name = c.args.name.now in
@@ -24,7 +23,7 @@ returns-in_err-schedule g c =
     c.in_err-schedule.ensures.read.reading.causes c.in_err-schedule.ensures.read.reading.missing c.in_err-schedule.ensures.read.reading.given
     c.in_err-schedule.ensures.read.reading.same)
 
-pub returns : goal.returns
+pub returns : Rattle.sim_top.proofs.commands.serving.serve.Goals.returns
 returns g c =
     let name = c.args.name.now in
     let schedule = c.in_ok-schedule.schedule in

@@ -1,8 +1,8 @@
 -- Where the marks are those of the state there are no shifts. The marks of a state ascend, as the ids of its rows do.
-use Rattle.std.proofs.Common.{◌≡◌, List, map, ap, subst, sym, ◌∙◌}
-use Rattle.sim_trail.proofs.{Merging.no_shifts, Rising.marks_ascend}
-use Rattle.sim_trail.specs.{Marks.IsAscending, Marks.mark_of, Marks.marks_of, Shifts.shifts_between, declared.mark.Mark.Mark}
 use Rattle.sim_trail.proofs.trail.Trail.follow.Goals as goal
+use Rattle.sim_trail.proofs.Merging.{marks_ascend, no_shifts}
+use Rattle.sim_trail.specs.{Shifts.IsAscending, Shifts.mark_of, Shifts.marks_of, Shifts.shifts_between, declared.mark.Mark.Mark}
+use Rattle.std.proofs.Common.{ap, List, map, subst, sym, ◌∙◌, ◌≡◌}
 
 pub returns-then-are_marks_of-clause-shifts : goal.returns-then-are_marks_of-clause-shifts
 returns-then-are_marks_of-clause-shifts c =

@@ -1,4 +1,4 @@
-use Rattle.sim_tree.proofs.{Common.◌≡◌, Common.false, Common.nat_lt, Common.height, Common.rules, Common.view, Levels.source_levels}
+use Rattle.sim_tree.proofs.{Ascends.source_levels, Common.false, Common.height, Common.nat_lt, Common.rules, Common.view, Common.◌≡◌}
 
 pub returns-clause-levels : Rattle.sim_tree.proofs.source.Source.from_json.Goals.returns-clause-levels
 returns-clause-levels c =

@@ -1,9 +1,8 @@
 use Rattle.sim_tree.proofs.Common.{◌-◌, ◌∙◌, ◌∷◌, ◌≡◌, ap, arith, child_named, drop, drop_more, length, List, node_of, None, rules, Some, sym, under, value_at}
 use Rattle.sim_tree.proofs.{Common.ℕ, Steps.at_child_of, Steps.at_no_child}
 use Rattle.std.proofs.{Common.take, lemmas.List.length-drop, lemmas.List.take_all}
-use Rattle.sim_tree.proofs.tree.Tree.+at.Goals as goal
 
-pub returns-in_err-child-in-len1-up : goal.returns-in_err-child-in-len1-up
+pub returns-in_err-child-in-len1-up : Rattle.sim_tree.proofs.tree.Tree.+at.Goals.returns-in_err-child-in-len1-up
 returns-in_err-child-in-len1-up t c =
     let path = c.args.path.now in
     let n = node_of c.args.self.now in
@@ -14,7 +13,7 @@ returns-in_err-child-in-len1-up t c =
     let gone : value_at n path ≡ None = ap (value_at n) next ∙ at_no_child n name (drop 1 path) lost in
     rw gone (search rules)
 
-pub returns-in_ok-child-in-len1-up : goal.returns-in_ok-child-in-len1-up
+pub returns-in_ok-child-in-len1-up : Rattle.sim_tree.proofs.tree.Tree.+at.Goals.returns-in_ok-child-in-len1-up
 returns-in_ok-child-in-len1-up t c =
     let path = c.args.path.now in
     let n = node_of c.args.self.now in

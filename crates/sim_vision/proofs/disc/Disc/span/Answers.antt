@@ -1,9 +1,8 @@
 -- A row further away than the reach has no cell. In another one the half goes to both sides, and no further than the ground.
 use Rattle.sim_vision.proofs.Common.{◌≡◌, ℕ, ◌+◌, ◌-◌, ◌*◌, ◌<◌, ◌≤◌, min, ltb, leb, and_right, ap, arith, is_in_span, le-ltb, sym, ◌∙◌}
 use Rattle.sim_vision.proofs.Discs.{far_cell, gap, near_row}
-use Rattle.sim_vision.proofs.disc.Disc.span.Goals as goal
 
-pub returns-then-away-self : goal.returns-then-away-self
+pub returns-then-away-self : Rattle.sim_vision.proofs.disc.Disc.span.Goals.returns-then-away-self
 returns-then-away-self c =
     let far : c.args.self.now < gap c.args.middle.z c.args.z = omega (arith, c.abs_diff-away.ensures, c.if-away-self.true, c.self.view_is) in
     record {
@@ -13,7 +12,7 @@ returns-then-away-self c =
       within = omega arith;
     }
 
-pub returns : goal.returns
+pub returns : Rattle.sim_vision.proofs.disc.Disc.span.Goals.returns
 returns c =
     let from : c.saturating_sub.result ≡ c.args.middle.x - c.half-half.result = omega (arith, c.saturating_sub.ensures) in
     let to : c.min.result ≡ min (c.args.middle.x + c.half-half.result + 1) c.args.width = omega (arith, c.min.ensures) in

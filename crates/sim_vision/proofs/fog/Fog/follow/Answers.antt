@@ -1,9 +1,8 @@
 -- A crossing is told, and what is left can be followed.
 use Rattle.sim_vision.proofs.Common.{Extent, extent_of, IsKnownCrossing, IsTurned, subst, sym, ◌∙◌}
 use Rattle.sim_vision.proofs.Following.{goes_on, known_crossing}
-use Rattle.sim_vision.proofs.fog.Fog.follow.Goals as goal
 
-pub turn-requires-clause-known : goal.turn-requires-clause-known
+pub turn-requires-clause-known : Rattle.sim_vision.proofs.fog.Fog.follow.Goals.turn-requires-clause-known
 turn-requires-clause-known c =
     let fog = c.args.self.now in
     let now = c.shifts.self in
@@ -11,7 +10,7 @@ turn-requires-clause-known c =
     (known_crossing (extent_of fog) c.args.discs.now c.args.shifts.now c.shifts.rest.now c.in-Some.more.now c.in-Some.crossing c.in-Some.ensures
     fog.counts.items now.counts.items fog.flags.items now.flags.items c.shifts.invariant.follows)
 
-pub shifts-preserved : goal.shifts-preserved
+pub shifts-preserved : Rattle.sim_vision.proofs.fog.Fog.follow.Goals.shifts-preserved
 shifts-preserved c =
     let fog = c.args.self.now in
     let now = c.shifts.self in

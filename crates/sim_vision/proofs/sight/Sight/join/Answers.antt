@@ -1,9 +1,8 @@
 -- The state was looked at, so what is counted is visible in it.
 use Rattle.sim_vision.proofs.Common.{◌≡◌, ℕ, true, false, List, Some, zip, all_counts, ap, is_missed, list_any, refusal_of, rules, sym, Vision, ◌∙◌}
 use Rattle.sim_vision.proofs.Joining.{by_cells}
-use Rattle.sim_vision.proofs.sight.Sight.join.Goals as goal
 
-pub returns-in_err-take_over-clause-refused : goal.returns-in_err-take_over-clause-refused
+pub returns-in_err-take_over-clause-refused : Rattle.sim_vision.proofs.sight.Sight.join.Goals.returns-in_err-take_over-clause-refused
 returns-in_err-take_over-clause-refused c =
     let setup = c.args.setup.now in
     let rows = c.args.state.now.rows in
@@ -16,7 +15,7 @@ returns-in_err-take_over-clause-refused c =
     ∙ ap Some (sym c.in_err-take_over.ensures.refused.0) in
     search rules
 
-pub returns-clause-accepted : goal.returns-clause-accepted
+pub returns-clause-accepted : Rattle.sim_vision.proofs.sight.Sight.join.Goals.returns-clause-accepted
 returns-clause-accepted c =
     let setup = c.args.setup.now in
     let rows = c.args.state.now.rows in

@@ -7,16 +7,14 @@ pub invariant_of-self : goal.invariant_of-self
 invariant_of-self c = let s = c.args.self.now in
     record { ascend = (aimed_there s.aimers.items c.args.id c.args.target c.in-Ok.at s.ascend c.in-Ok.ensures).ascend }
 
-pub returns-in-Ok-clause-target : goal.returns-in-Ok-clause-target
-returns-in-Ok-clause-target c =
+pub returns-in-Ok : goal.returns-in-Ok
+returns-in-Ok c =
     let s = c.args.self.now in
-    target_there s.aimers.items c.args.id c.in-Ok.at c.index.result.now s.ascend c.in-Ok.ensures c.index.ensures
-
-pub returns-in-Ok-clause-facts : goal.returns-in-Ok-clause-facts
-returns-in-Ok-clause-facts c =
-    let s = c.args.self.now in
-    facts_aimed s.aimers.items c.args.id c.args.target c.in-Ok.at s.ascend _
-    (aimed_there s.aimers.items c.args.id c.args.target c.in-Ok.at s.ascend c.in-Ok.ensures)
+    record {
+      target = target_there s.aimers.items c.args.id c.in-Ok.at c.index.result.now s.ascend c.in-Ok.ensures c.index.ensures;
+      facts = facts_aimed s.aimers.items c.args.id c.args.target c.in-Ok.at s.ascend _
+          (aimed_there s.aimers.items c.args.id c.args.target c.in-Ok.at s.ascend c.in-Ok.ensures);
+    }
 
 pub invariant_of-self-in-Err : goal.invariant_of-self-in-Err
 invariant_of-self-in-Err c =
@@ -27,12 +25,12 @@ invariant_of-self-in-Err c =
           (aimed_new s.aimers.items c.args.id c.args.target c.in-Err.at s.ascend c.in-Err.ensures).ascend;
     }
 
-pub returns-in-Err-clause-target : goal.returns-in-Err-clause-target
-returns-in-Err-clause-target c = no_target c.args.self.now.aimers.items c.args.id c.in-Err.at c.args.self.now.ascend c.in-Err.ensures
-
-pub returns-in-Err-clause-facts : goal.returns-in-Err-clause-facts
-returns-in-Err-clause-facts c =
+pub returns-in-Err : goal.returns-in-Err
+returns-in-Err c =
     let s = c.args.self.now in
-    ap facts_in (if_ok c.insert.result _ s.aimers.items c.insert.new.self.items (c.insert.ensures.succeeds c.requires) c.insert.ensures.items)
-    ∙ facts_aimed s.aimers.items c.args.id c.args.target c.in-Err.at s.ascend _
-    (aimed_new s.aimers.items c.args.id c.args.target c.in-Err.at s.ascend c.in-Err.ensures)
+    record {
+      target = no_target c.args.self.now.aimers.items c.args.id c.in-Err.at c.args.self.now.ascend c.in-Err.ensures;
+      facts = ap facts_in (if_ok c.insert.result _ s.aimers.items c.insert.new.self.items (c.insert.ensures.succeeds c.requires) c.insert.ensures.items)
+          ∙ facts_aimed s.aimers.items c.args.id c.args.target c.in-Err.at s.ascend _
+          (aimed_new s.aimers.items c.args.id c.args.target c.in-Err.at s.ascend c.in-Err.ensures);
+    }

@@ -11,25 +11,23 @@ invariant_of-self c =
           (left_there s.aimers.items c.args.id 0 c.in-Ok.at s.ascend c.in-Ok.ensures).ascend;
     }
 
-pub returns-in-Ok-clause-target : goal.returns-in-Ok-clause-target
-returns-in-Ok-clause-target c =
+pub returns-in-Ok-clause-aims : goal.returns-in-Ok-clause-aims
+returns-in-Ok-clause-aims c =
     let s = c.args.self.now in
-    target_there s.aimers.items c.args.id c.in-Ok.at c.index.result.now s.ascend c.in-Ok.ensures c.index.ensures
+    record {
+      target = target_there s.aimers.items c.args.id c.in-Ok.at c.index.result.now s.ascend c.in-Ok.ensures c.index.ensures;
+      facts = ap facts_in c.remove.ensures.items ∙ facts_left s.aimers.items c.args.id 0 c.in-Ok.at s.ascend _
+          (left_there s.aimers.items c.args.id 0 c.in-Ok.at s.ascend c.in-Ok.ensures);
+    }
 
-pub returns-in-Err-clause-target : goal.returns-in-Err-clause-target
-returns-in-Err-clause-target c = no_target c.args.self.now.aimers.items c.args.id c.in-Err.field-0 c.args.self.now.ascend c.in-Err.ensures
-
-pub returns-in-Ok-clause-facts : goal.returns-in-Ok-clause-facts
-returns-in-Ok-clause-facts c =
+pub returns-in-Err-clause-aims : goal.returns-in-Err-clause-aims
+returns-in-Err-clause-aims c =
     let s = c.args.self.now in
-    ap facts_in c.remove.ensures.items ∙ facts_left s.aimers.items c.args.id 0 c.in-Ok.at s.ascend _
-    (left_there s.aimers.items c.args.id 0 c.in-Ok.at s.ascend c.in-Ok.ensures)
-
-pub returns-in-Err-clause-facts : goal.returns-in-Err-clause-facts
-returns-in-Err-clause-facts c =
-    let s = c.args.self.now in
-    facts_left s.aimers.items c.args.id 0 c.in-Err.field-0 s.ascend s.aimers.items
-    (left_none s.aimers.items c.args.id 0 c.in-Err.field-0 s.ascend c.in-Err.ensures)
+    record {
+      target = no_target c.args.self.now.aimers.items c.args.id c.in-Err.field-0 c.args.self.now.ascend c.in-Err.ensures;
+      facts = facts_left s.aimers.items c.args.id 0 c.in-Err.field-0 s.ascend s.aimers.items
+          (left_none s.aimers.items c.args.id 0 c.in-Err.field-0 s.ascend c.in-Err.ensures);
+    }
 
 pub returns-in-Ok-clause-told : goal.returns-in-Ok-clause-told
 returns-in-Ok-clause-told c =

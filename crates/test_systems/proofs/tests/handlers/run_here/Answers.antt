@@ -1,8 +1,7 @@
 -- A call through the box of a planner is a call of `planned_as_usual`, which may be given a command of each kind, or of `resigned`.
-use denote.Param.Callables.{held_fn, Sure}
-use Rattle.test_systems.proofs.tests.handlers.run_here.OwnLists.{own-3}
-use Rattle.sim_orders.{proofs.Planning.of_kind, specs.Orders.Fulfils}
 use Rattle.test_systems.proofs.tests.handlers.run_here.Goals as goal
+use Rattle.{sim_orders.proofs.Planning.of_kind, sim_orders.specs.Orders.Fulfils, test_systems.proofs.tests.handlers.run_here.OwnLists.own-3}
+use denote.Param.Callables.{held_fn, Sure}
 
 pub invariant_of-vec : goal.invariant_of-vec
 invariant_of-vec g c =

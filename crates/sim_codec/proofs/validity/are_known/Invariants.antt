@@ -1,5 +1,0 @@
--- The rows so far passed.
-use Rattle.sim_codec.proofs.Common.{take, All, IsKnownRow}
-
-abbrev pub invariant-loop-row : Rattle.sim_codec.proofs.validity.are_known.Given.invariant-loop-row
-invariant-loop-row l = All (IsKnownRow 1 l.setup l.fn.rows) (take l.row-index l.rows)
