@@ -115,10 +115,10 @@ labels_among land facts g label h known =
 -- a cell is open just where it has a label
 open_with_label : (g : OpenCells) (label : Cell → Option ℕ) → AreLabels (field_of_grid g) label → (c : Cell) → IsOnGround g.size c
     → is_open_at g c ≡ is_some (label c)
-open_with_label g label known c on = by (is_open_at g c) (label c) refl refl
+open_with_label g label known c is_on = by (is_open_at g c) (label c) refl refl
   where
     by : (b : Bool) (o : Option ℕ) → is_open_at g c ≡ b → label c ≡ o → is_open_at g c ≡ is_some (label c)
-    by true o e f = let (l, is) = known.all c on e in e ∙ sym (ap is_some is)
+    by true o e f = let (l, is) = known.all c is_on e in e ∙ sym (ap is_some is)
     by false None e f = e ∙ sym (ap is_some f)
     by false (Some l) e f = absurd (let is_open : is_open_at g c ≡ true = from-open (field_of_grid g) (known.sound c l f).joined in cc)
 
@@ -147,23 +147,23 @@ pub are_turned : (g h : OpenCells) (xs ys : List ℕ) (before after : Cell → B
 are_turned g h xs ys before after label old new same turned known = record { came = came; went = went }
   where
     there : (c : Cell) → IsOnGround h.size c → IsOnGround g.size c
-    there c on = subst (λ (s : Size). IsOnGround s c) same on
+    there c is_on = subst (λ (s : Size). IsOnGround s c) same is_on
 
     was : (c : Cell) → IsOnGround h.size c → is_some (label c) ≡ (layers_at g.size xs c == 0)
-    was c on = sym (open_with_label g label (labels_again (field_of_grid g) label known) c (there c on)) ∙ old.each c (there c on)
+    was c is_on = sym (open_with_label g label (labels_again (field_of_grid g) label known) c (there c is_on)) ∙ old.each c (there c is_on)
 
     is : (c : Cell) → IsOnGround h.size c → is_open_at h c ≡ (layers_at g.size ys c == 0)
-    is c on = new.each c on ∙ ap (λ (s : Size). layers_at s ys c == 0) same
+    is c is_on = new.each c is_on ∙ ap (λ (s : Size). layers_at s ys c == 0) same
 
     came : ((c : Cell) → before c ≡ false) → Closes h.size (λ c. is_some (label c)) (is_open_at h) after
-    came none c on =
-        is c on ∙ fewer (layers_at g.size xs c) (layers_at g.size ys c) (after c) (omega (arith, turned c (there c on), ap one_if (none c))) ∙
-        ap (λ (b : Bool). b && not (after c)) (sym (was c on))
+    came none c is_on =
+        is c is_on ∙ fewer (layers_at g.size xs c) (layers_at g.size ys c) (after c) (omega (arith, turned c (there c is_on), ap one_if (none c))) ∙
+        ap (λ (b : Bool). b && not (after c)) (sym (was c is_on))
 
     went : ((c : Cell) → after c ≡ false) → Closes h.size (is_open_at h) (λ c. is_some (label c)) before
-    went none c on =
-        was c on ∙ fewer (layers_at g.size ys c) (layers_at g.size xs c) (before c) (omega (arith, turned c (there c on), ap one_if (none c))) ∙
-        ap (λ (b : Bool). b && not (before c)) (sym (is c on))
+    went none c is_on =
+        was c is_on ∙ fewer (layers_at g.size ys c) (layers_at g.size xs c) (before c) (omega (arith, turned c (there c is_on), ap one_if (none c))) ∙
+        ap (λ (b : Bool). b && not (before c)) (sym (is c is_on))
 
 -- What is taken and put down again leaves the same cells open.
 
@@ -180,11 +180,11 @@ pub labels_undone : (g mid h : OpenCells) (xs ys zs : List ℕ) (before after : 
 labels_undone g mid h xs ys zs before after label old new first second turned undone = same_labels g h label (second ∙ first) same
   where
     same : (c : Cell) → IsOnGround g.size c → is_open_at g c ≡ is_open_at h c
-    same c on =
-        let back = subst (λ (s : Size). LayersTurn after before s ys zs) first undone c on in
-        let layers : layers_at g.size zs c ≡ layers_at g.size xs c = omega (arith, back, turned c on) in
-        old.each c on ∙ ap (λ (n : ℕ). n == 0) (sym layers) ∙ ap (λ (s : Size). layers_at s zs c == 0) (sym (second ∙ first)) ∙
-        sym (new.each c (subst (λ (s : Size). IsOnGround s c) (sym (second ∙ first)) on))
+    same c is_on =
+        let back = subst (λ (s : Size). LayersTurn after before s ys zs) first undone c is_on in
+        let layers : layers_at g.size zs c ≡ layers_at g.size xs c = omega (arith, back, turned c is_on) in
+        old.each c is_on ∙ ap (λ (n : ℕ). n == 0) (sym layers) ∙ ap (λ (s : Size). layers_at s zs c == 0) (sym (second ∙ first)) ∙
+        sym (new.each c (subst (λ (s : Size). IsOnGround s c) (sym (second ∙ first)) is_on))
 
 -- What a ground lends of what it keeps.
 

@@ -1,6 +1,5 @@
 -- What passed, and then what passed behind it; and one line more is answered behind those that were.
 use Rattle.sim_talk.specs.declared.fault.TalkFault.TheVariants as ends
-use Rattle.sim_talk.specs.Talks as talks
 use Rattle.sim_store.specs.{Shelf.Rose, Shelf.raised, declared.fault.Failed.Failed}
 use Rattle.sim_talk.specs.Dialogues.{IsCutOff, IsUntold, Speaks, TellsText, last_part, no_answer, no_first, no_last, no_line, talk_so_far}
 use Rattle.sim_talk.specs.Dialogues.{after_lines, amid_answer, answer_part, AnswersLines, before_line, Causes, Converses, dialogue, EndsAs, first_part, IsAll}
@@ -427,28 +426,28 @@ misses_piped most fault coming coming' written written' kept kept' most' read re
     record { passed = tt; cause = cause_told most fault coming coming' was; written = says; read = counted; wrote = unfailed }
 
 -- what was told
-pub tells_piped : (result : Result ⊤ Failed) (text ahead : List ℕ) (left told told' : Option (List ℕ)) (kept kept' : List ℕ) (most read wrote wrote' : ℕ)
-    → TellsOut result text kept kept' told told' → TellCounts result wrote wrote'
-    → Tells result text (piped ahead left told kept most read wrote) (piped ahead left told' kept' most read wrote')
-tells_piped (Ok done) text ahead left told told' kept kept' most read wrote wrote' was counted = record {
+pub tells_piped : (result : Result ⊤ Failed) (text ahead : List ℕ) (left stored stored' : Option (List ℕ)) (kept kept' : List ℕ) (most read wrote wrote' : ℕ)
+    → TellsOut result text kept kept' stored stored' → TellCounts result wrote wrote'
+    → Tells result text (piped ahead left stored kept most read wrote) (piped ahead left stored' kept' most read wrote')
+tells_piped (Ok done) text ahead left stored stored' kept kept' most read wrote wrote' was counted = record {
   passed = tt;
   taken = Consumes-nothing (prepend_known ahead left);
-  written = subst (λ (l : List ℕ). Says l (piped ahead left told kept most read wrote) (piped ahead left told' kept' most read wrote')) (sym (append-nil text))
+  written = subst (λ (l : List ℕ). Says l (piped ahead left stored kept most read wrote) (piped ahead left stored' kept' most read wrote')) (sym (append-nil text))
       (record { now = was.0; written = was.1; rest = was.2 });
   longest = refl;
   read = refl;
   wrote = counted;
 }
-tells_piped (Err failed) text ahead left told told' kept kept' most read wrote wrote' was counted = (
-  talks.told text ∷ [],
-  subst (λ (t : List ℕ). IsBeginning text (talks.told t ∷ [])) (take-length text) (part_of (length text)),
+tells_piped (Err failed) text ahead left stored stored' kept kept' most read wrote wrote' was counted = (
+  told text ∷ [],
+  subst (λ (t : List ℕ). IsBeginning text (told t ∷ [])) (take-length text) (part_of (length text)),
   (
-    piped ahead left told (kept ++ text) most read wrote,
+    piped ahead left stored (kept ++ text) most read wrote,
     record {
       passed = tt;
       taken = Consumes-nothing (prepend_known ahead left);
-      written = subst (λ (l : List ℕ). Says l (piped ahead left told kept most read wrote) (piped ahead left told (kept ++ text) most read wrote))
-          (sym (append-nil text)) (record { now = []; written = Appends-nothing told told refl; rest = refl });
+      written = subst (λ (l : List ℕ). Says l (piped ahead left stored kept most read wrote) (piped ahead left stored (kept ++ text) most read wrote))
+          (sym (append-nil text)) (record { now = []; written = Appends-nothing stored stored refl; rest = refl });
       longest = refl;
       read = refl;
       wrote = refl;

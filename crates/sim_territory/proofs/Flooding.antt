@@ -392,11 +392,11 @@ module _ (setup : Setup) (marks : List Mark) (i : ℕ) (d : Mark) (below : i < l
 
   pub roots_step : (begun old new : Flood) → IsOnGround (ground_size old) (get_or marks i d).cell → is_root setup marks (get_or marks i d) ≡ true
       → Wets old new (get_or marks i d).cell → AtRoots setup marks (take i marks) begun old → AtRoots setup marks (take (i + 1) marks) begun new
-  roots_step begun old new on e wets at =
+  roots_step begun old new is_on e wets at =
       record {
         size = wets-size old new (get_or marks i d).cell wets ∙ at.size;
         wet = subst (λ (cells : List Cell). IsWetAt cells new) (sym (root_added e))
-            (wet_more (roots_among setup marks (take i marks)) old new (get_or marks i d).cell on at.wet wets);
+            (wet_more (roots_among setup marks (take i marks)) old new (get_or marks i d).cell is_on at.wet wets);
       }
 
   pub roots_pass : (begun old : Flood) → is_root setup marks (get_or marks i d) ≡ false → AtRoots setup marks (take i marks) begun old
@@ -415,8 +415,8 @@ pub rooted_found : (setup : Setup) (marks : List Mark) (sums : Sums) (holders : 
 rooted_found setup marks sums holders begun last kept are begun_is full at fills =
     record {
       full = full ∙ ap (λ (s : Size). s.width * s.depth) last_land;
-      each = λ c on. (
-        (λ wet. forth c (fills.sound c (back c on) (flag_last c wet))),
+      each = λ c is_on. (
+        (λ wet. forth c (fills.sound c (back c is_on) (flag_last c wet))),
         (λ rooted. last_flag c (fills.all c (turned c rooted))),
       );
     }
@@ -428,10 +428,10 @@ rooted_found setup marks sums holders begun last kept are begun_is full at fills
     last_land = fills.size ∙ begun_land
 
     back : (c : Cell) → IsOnGround (size_of setup.land) c → IsOnGround (ground_size begun) c
-    back c on = subst (λ (s : Size). IsOnGround s c) (sym begun_land) on
+    back c is_on = subst (λ (s : Size). IsOnGround s c) (sym begun_land) is_on
 
     on_sums : (c : Cell) → IsOnGround (size_of setup.land) c → IsOnGround (size_in sums) c
-    on_sums c on = subst (λ (s : Size). IsOnGround s c) (sym kept.size) on
+    on_sums c is_on = subst (λ (s : Size). IsOnGround s c) (sym kept.size) is_on
 
     flag_last : (c : Cell) → flag_at (size_of setup.land) last.flags.items c ≡ true → IsWet last c
     flag_last c h = ap (λ (s : Size). flag_at s last.flags.items c) last_land ∙ h
@@ -440,13 +440,13 @@ rooted_found setup marks sums holders begun last kept are begun_is full at fills
     last_flag c h = ap (λ (s : Size). flag_at s last.flags.items c) (sym last_land) ∙ h
 
     holders_are : (c : Cell) → IsOnGround (size_of setup.land) c → holder setup marks c ≡ holder_at (ground_size begun) holders c
-    holders_are c on =
-        sym (holder-kept setup marks sums kept c (on_sums c on)) ∙ sym (are.each c (on_sums c on)) ∙ ap (λ (s : Size). holder_at s holders c) (sym begun_is)
+    holders_are c is_on =
+        sym (holder-kept setup marks sums kept c (on_sums c is_on)) ∙ sym (are.each c (on_sums c is_on)) ∙ ap (λ (s : Size). holder_at s holders c) (sym begun_is)
 
     forth : (c : Cell) → IsReachedFrom (ground_of begun holders) (Waits begun) c → IsRooted setup marks c
     forth c r =
         reached-turned (ground_of begun holders) (held_ground setup marks) (Waits begun) (Contains (roots_of setup marks)) begun_land
-        (λ v on. sym (holders_are v (subst (λ (s : Size). IsOnGround s v) begun_land on))) (λ v h. at.wait.on v h) at.sound r
+        (λ v is_on. sym (holders_are v (subst (λ (s : Size). IsOnGround s v) begun_land is_on))) (λ v h. at.wait.on v h) at.sound r
 
     turned : (c : Cell) → IsRooted setup marks c → IsReachedFrom (ground_of begun holders) (Waits begun) c
     turned c r =
