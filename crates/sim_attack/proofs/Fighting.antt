@@ -1,12 +1,11 @@
 -- The loop over the rows that fight.
-use Rattle.sim_base.specs.declared.{change.Change.Change, change.Change.TheVariants.Word, setup.Setup.Setup, state.Aim.Aim, state.Row.Row, state.State.State}
-use Rattle.sim_base.specs.{Commands.is_near, Rows.arms_of, Rows.row_of, Turn.Hit, Turn.Hitting, Turn.fights, Turn.hitting, Turn.rests, Turn.strikes}
-use Rattle.sim_base.specs.{Turn.taken_from, Turn.with_cooldown, declared.template.Arms.Arms}
-use Rattle.std.proofs.Common.{[], ap, append_assoc, arith, Bool, cond, false, flat_map, fold, get_or, length, List, None, Option, refl, replicate, Some, subst}
-use Rattle.std.proofs.Common.{sym, take, true, ℕ, ◌++◌, ◌+◌, ◌-◌, ◌<◌, ◌∙◌, ◌∷◌, ◌≡◌, ◌≤◌}
-use Rattle.std.proofs.lemmas.List.{Concat.flat_map-append, Sums.fold-append, append-nil, get_or-replicate, get_or_default, length-replicate, take_all}
-use Rattle.{sim_attack.specs.Fights.AreTaken, sim_attack.specs.Fights.fought_first, sim_attack.specs.Fights.fought_on, sim_base.specs.Turn.strikes_near}
-use Rattle.{sim_plans.specs.Plans.hurt_changes_by, sim_plans.specs.Plans.hurt_changes_of, std.proofs.lemmas.List.take_more, std.specs.Prelude.◌==◌}
+use Rattle.{sim_attack.specs.Fights.{AreTaken, fought_first, fought_on}, sim_base.specs.Commands.is_near}
+use Rattle.sim_base.specs.declared.{change.Change.{Change, TheVariants.Word}, setup.Setup.Setup, state.{Aim.Aim, Row.Row, State.State}, template.Arms.Arms}
+use Rattle.sim_base.specs.{Rows.{arms_of, row_of}, Turn.{fights, Hit, Hitting, hitting, rests, strikes, strikes_near, taken_from, with_cooldown}}
+use Rattle.sim_plans.specs.Plans.{hurt_changes_by, hurt_changes_of}
+use Rattle.std.proofs.Common.{ap, append_assoc, arith, Bool, cond, false, flat_map, fold, get_or, length, List, None, Option, refl, replicate, Some, subst, sym}
+use Rattle.std.proofs.{Common.{take, true, ℕ, [], ◌++◌, ◌+◌, ◌-◌, ◌<◌, ◌∙◌, ◌∷◌, ◌≡◌, ◌≤◌}, lemmas.List.{append-nil, Concat.flat_map-append, get_or-replicate}}
+use Rattle.std.{proofs.lemmas.List.{get_or_default, length-replicate, Sums.fold-append, take_all, take_more}, specs.Prelude.◌==◌}
 
 -- the word and the hits after a fight do not depend on the rows so far
 record IsSameFight (a b : Hitting) : Type 0 where

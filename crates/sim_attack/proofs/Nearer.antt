@@ -1,9 +1,8 @@
 -- The loop that finds the nearest.
-use Rattle.sim_attack.specs.{Finds.StandsFor, Finds.better_of, Finds.nearest_of, declared.aim.Candidate.Candidate}
-use Rattle.sim_base.specs.{Turn.square_to, Ways.is_before, Ways.lesser_of, declared.state.Row.Row, declared.state.State.State}
-use Rattle.std.proofs.Common.{[], ap, arith, Bool, cond, false, fold, get_or, length, List, None, Option, refl, Some, subst, sym, take, true, ℕ, ◌++◌, ◌+◌, ◌<◌}
-use Rattle.std.proofs.{Common.◌∙◌, Common.◌∷◌, Common.◌≡◌, lemmas.List.Sums.fold-append, lemmas.List.take_all, lemmas.List.take_more}
-use Rattle.std.specs.Prelude.{option_map, unwrap_or}
+use Rattle.sim_attack.specs.{declared.aim.Candidate.Candidate, Finds.{better_of, nearest_of, StandsFor}}
+use Rattle.sim_base.specs.{declared.state.{Row.Row, State.State}, Turn.square_to, Ways.{is_before, lesser_of}}
+use Rattle.std.proofs.Common.{ap, arith, Bool, cond, false, fold, get_or, length, List, None, Option, refl, Some, subst, sym, take, true, ℕ, [], ◌++◌, ◌+◌, ◌<◌}
+use Rattle.std.{proofs.{Common.{◌∙◌, ◌∷◌, ◌≡◌}, lemmas.List.{Sums.fold-append, take_all, take_more}}, specs.Prelude.{option_map, unwrap_or}}
 
 module _ (state : State) (row : Row) where
   abbrev key : ℕ → List ℕ

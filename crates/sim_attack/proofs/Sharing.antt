@@ -1,16 +1,13 @@
 -- Rows of one owner that stand at one point and see equally far have the same nearest enemy.
-use Rattle.sim_attack.specs.Finds.{AreFound, filled, find_places, is_shared, nearest_from, nearest_of, place_for, shared}
-use Rattle.sim_base.specs.{Commands.is_near, Commands.seen, Commands.within, Limits.IsKnownRow, Limits.IsLooselyValid, Limits.IsSetup, Places.square}
-use Rattle.sim_base.specs.{Rows.enemies_of, Rows.id_of, Rows.in_mask, Rows.is_holding, Rows.row_of, Turn.may_take, Turn.same_point, Turn.square_to}
-use Rattle.sim_base.specs.{Turn.target_for, Ways.least_of, declared.place.Point.Point, declared.setup.Setup.Setup, declared.state.Row.Row}
-use Rattle.sim_laws.proofs.Validity.{Has-of_filter, apart, found_row, known_row, same_row}
-use Rattle.sim_laws.proofs.{Keys.first_of_not_before, Neighbours.Has, Neighbours.Has-of_map, Removing.IsDownward, Removing.least_of-filter}
-use Rattle.std.proofs.Common.{[], ap, arith, Bool, cond, false, filter, get_or, inl, inr, int_eq, List, nat_lt, None, not, Option, refl, Some, subst, sym, true}
-use Rattle.std.proofs.lemmas.{Bool.and_parts, Bool.eqb-true, Bool.ne_eqb, List.Elements.All-get_or, List.Elements.All-replicate, Map.Entries.option_filter}
-use Rattle.std.proofs.{Common.ℕ, Common.ℤ, Common.◌*◌, Common.◌<◌, Common.◌∙◌, Common.◌∷◌, Common.◌≡◌, Common.◌≤◌, Math.ListN.get_or-eq_default}
-use Rattle.std.specs.Prelude.{option_map, replicate, unsigned_abs, unwrap_or, ◌&&◌, ◌==◌, ◌||◌}
-use Rattle.{sim_attack.specs.declared.finds.Find.Find, sim_base.specs.declared.state.State.State, sim_base.specs.declared.template.Arms.Arms}
-use Rattle.{sim_plans.proofs.Suiting.same_point-true, std.specs.Prelude.IfSome, std.specs.Prelude.is_some, std.specs.Prelude.length, std.specs.Prelude.nat_le}
+use Rattle.sim_attack.specs.{declared.finds.Find.Find, Finds.{AreFound, filled, find_places, is_shared, nearest_from, nearest_of, place_for, shared}}
+use Rattle.sim_base.specs.{Commands.{is_near, seen, within}, declared.{place.Point.Point, setup.Setup.Setup, state.{Row.Row, State.State}, template.Arms.Arms}}
+use Rattle.sim_base.specs.{Limits.{IsKnownRow, IsLooselyValid, IsSetup}, Places.square, Rows.{enemies_of, id_of, in_mask, is_holding, row_of}, Turn.may_take}
+use Rattle.{sim_base.specs.{Turn.{same_point, square_to, target_for}, Ways.least_of}, sim_laws.proofs.{Keys.first_of_not_before, Neighbours.{Has, Has-of_map}}}
+use Rattle.sim_laws.proofs.{Removing.{IsDownward, least_of-filter}, Validity.{apart, found_row, Has-of_filter, known_row, same_row}}
+use Rattle.{sim_plans.proofs.Suiting.same_point-true, std.proofs.Common.{ap, arith, Bool, cond, false, filter, get_or, inl, inr, int_eq, List, nat_lt, None}}
+use Rattle.std.proofs.{Common.{not, Option, refl, Some, subst, sym, true, ℕ, ℤ, [], ◌*◌, ◌<◌, ◌∙◌, ◌∷◌, ◌≡◌, ◌≤◌}, lemmas.Bool.{and_parts, eqb-true, ne_eqb}}
+use Rattle.std.proofs.{lemmas.{List.Elements.{All-get_or, All-replicate}, Map.Entries.option_filter}, Math.ListN.get_or-eq_default}
+use Rattle.std.specs.Prelude.{IfSome, is_some, length, nat_le, option_map, replicate, unsigned_abs, unwrap_or, ◌&&◌, ◌==◌, ◌||◌}
 
 -- a filter that each member passes
 filter_all : {X : Type 0} (p : X → Bool) (xs : List X) → ((x : X) → Has xs x → p x ≡ true) → filter p xs ≡ xs

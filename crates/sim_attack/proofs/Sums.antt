@@ -1,13 +1,10 @@
 -- What all landed hits on each row take, when one more lands and when a row has fought.
-use Rattle.sim_attack.specs.Fights.{AreTaken, fought_on}
-use Rattle.sim_base.specs.{Commands.is_near, Places.next_word, Rows.arms_of, Rows.id_of, Rows.row_of, Turn.Hit, Turn.fights, Turn.lands, Turn.resist_of}
-use Rattle.sim_base.specs.{Turn.rests, Turn.strikes, Turn.strikes_near, Turn.taken, Turn.taken_from, declared.setup.Setup.Setup, declared.state.Aim.Aim}
-use Rattle.sim_base.{proofs.RowPlaces.apart_at, specs.declared.state.Row.Row, specs.declared.state.State.State, specs.declared.template.Arms.Arms}
-use Rattle.std.proofs.Common.{[], ap, arith, Bool, cond, false, filter, get_or, length, length-set, List, map, Option, refl, set, Some, sym, true, ℕ, ⊎_elim}
-use Rattle.std.proofs.Common.{◌++◌, ◌+◌, ◌-◌, ◌<◌, ◌∙◌, ◌∷◌, ◌≡◌}
-use Rattle.std.proofs.lemmas.Bool.{cases_eq, cond-false, cond-true, eq-eqb, ne_eqb}
-use Rattle.std.proofs.lemmas.List.{Elements.filter-append, Sums.sum_by-append, get_or-set_other, get_or-set_same, get_or_default}
-use Rattle.std.specs.{List.Sorted.IsStrictlyIncreasing, Prelude.sum_by, Prelude.◌==◌}
+use Rattle.{sim_attack.specs.Fights.{AreTaken, fought_on}, sim_base.{proofs.RowPlaces.apart_at, specs.{Commands.is_near, declared.setup.Setup.Setup}}}
+use Rattle.sim_base.specs.{declared.{state.{Aim.Aim, Row.Row, State.State}, template.Arms.Arms}, Places.next_word, Rows.{arms_of, id_of, row_of}}
+use Rattle.{sim_base.specs.Turn.{fights, Hit, lands, resist_of, rests, strikes, strikes_near, taken, taken_from}, std.proofs.Common.{ap, arith, Bool, cond}}
+use Rattle.std.proofs.Common.{false, filter, get_or, length, length-set, List, map, Option, refl, set, Some, sym, true, ℕ, ⊎_elim, [], ◌++◌, ◌+◌, ◌-◌, ◌<◌, ◌∙◌}
+use Rattle.std.proofs.{Common.{◌∷◌, ◌≡◌}, lemmas.{Bool.{cases_eq, cond-false, cond-true, eq-eqb, ne_eqb}, List.{Elements.filter-append, get_or-set_other}}}
+use Rattle.std.{proofs.lemmas.List.{get_or-set_same, get_or_default, Sums.sum_by-append}, specs.{List.Sorted.IsStrictlyIncreasing, Prelude.{sum_by, ◌==◌}}}
 
 -- one more hit
 taken_from-more : (id : ℕ) (hits : List Hit) (h : Hit) → taken_from id (hits ++ h ∷ []) ≡ taken_from id hits + cond (h.target == id) h.taken 0

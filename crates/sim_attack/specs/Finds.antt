@@ -1,11 +1,10 @@
 -- What fighters have found, and which others find the same.
 use Rattle.sim_attack.specs.declared.{aim.Candidate.Candidate, battle.Battle.Battle, finds.Find.Find}
-use Rattle.sim_base.specs.{Commands.within, Limits.IsKnownRow, Limits.IsLooselyValid, Limits.IsSetup, Places.square, Rows.enemies_of, Rows.row_of}
-use Rattle.sim_base.specs.{Turn.same_point, Turn.square_to, Ways.is_before, Ways.least_of, declared.place.Point.Point, declared.setup.Setup.Setup}
-use Rattle.std.specs.Prelude.{[], All, Bool, IfSome, if◌then◌else◌, List, None, Option, option_map, replicate, Some, unsigned_abs, unwrap_or, ℕ, ℤ, ◌%◌, ◌&&◌}
-use Rattle.std.specs.Prelude.{◌+◌, ◌/◌, ◌==◌, ◌∷◌, ◌≡◌}
-use Rattle.{sim_base.specs.declared.state.Row.Row, sim_base.specs.declared.state.State.State, sim_plans.specs.SceneWords.Stands}
-use Rattle.{sim_plans.specs.declared.scene.Scene.Scene, sim_system.specs.declared.system.System.Ghosts, std.specs.Ordering.int_eq, std.specs.Prelude.◌*◌}
+use Rattle.sim_base.specs.{Commands.within, declared.{place.Point.Point, setup.Setup.Setup, state.{Row.Row, State.State}}, Limits.{IsKnownRow, IsLooselyValid}}
+use Rattle.sim_base.specs.{Limits.IsSetup, Places.square, Rows.{enemies_of, row_of}, Turn.{same_point, square_to}, Ways.{is_before, least_of}}
+use Rattle.{sim_plans.specs.{declared.scene.Scene.Scene, SceneWords.Stands}, sim_system.specs.declared.system.System.Ghosts}
+use Rattle.std.specs.{Ordering.int_eq, Prelude.{All, Bool, IfSome, if◌then◌else◌, List, None, Option, option_map, replicate, Some, unsigned_abs, unwrap_or, ℕ}}
+use Rattle.std.specs.Prelude.{ℤ, [], ◌%◌, ◌&&◌, ◌*◌, ◌+◌, ◌/◌, ◌==◌, ◌∷◌, ◌≡◌}
 
 -- how many finds are kept at most
 abbrev pub find_places : ℕ

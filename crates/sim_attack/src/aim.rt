@@ -4,22 +4,20 @@
 //! holds its place. So the nearest enemy that one row finds is kept for others of its owner that stand where it stands. A row
 //! that holds its place takes it where it is within range; if it is not, no other is.
 
-ghost use Rattle.std.specs.{Prelude.IfOk, Prelude.OnOk, Prelude.Some, Prelude.◌++◌, Prelude.◌≡◌, Result.ForOk};
 ghost use Rattle.sim_attack.specs.Finds.{AreFound, better_of, Knows, MayLook, nearest_from, nearest_of};
-ghost use Rattle.sim_base.specs.Turn.{aimed, is_idle as is_idle_by, lets_go as lets_go_by, may_take as may_take_by, reaches as reaches_by};
-ghost use Rattle.sim_base.specs.Turn.{square_to as square_to_by};
-ghost use Rattle.sim_base.specs.{Limits.IsKnownRow, Limits.IsSetup, Places.IsPlaced, Rows.arms_of as arms_by, Rows.row_of, Rows.target_of as target_by};
-ghost use Rattle.sim_plans.specs.{Plans.IsPlanOf, Plans.aim_changes_of, Plans.aim_plan, Plans.next_target, SceneWords.Stands};
+ghost use Rattle.sim_base.specs.{Limits.{IsKnownRow, IsSetup}, Places.IsPlaced, Rows.{arms_of as arms_by, row_of, target_of as target_by}, Turn.aimed};
+ghost use Rattle.sim_base.specs.Turn.{is_idle as is_idle_by, lets_go as lets_go_by, may_take as may_take_by, reaches as reaches_by, square_to as square_to_by};
+ghost use Rattle.sim_plans.specs.{Plans.{aim_changes_of, aim_plan, IsPlanOf, next_target}, SceneWords.Stands};
+ghost use Rattle.std.specs.{Prelude.{IfOk, OnOk, Some, ◌++◌, ◌≡◌}, Result.ForOk};
 
 use crate::battle::Battle;
 use crate::finds::Finds;
-use sim_base::{Arms, Changes, Items, OutOfMemory, Point, Row, Setup, square};
+use sim_base::{Arms, Changes, Global, Items, OutOfMemory, Point, Row, Setup, square};
 use sim_plans::{
     RowIndex, Scene, arms_of, is_enemy_of, is_going, is_holding, is_near, push_target, push_turn,
     target_of,
 };
 use sim_system::{Answer, Ask, System};
-use std::alloc::Global;
 
 /// The changes by which fighters choose their targets. They fit in order, and give the phase.
 pub fn aim_changes(alloc: Global, scene: &Scene<'_>) -> Result<Changes, OutOfMemory>

@@ -7,9 +7,8 @@
 ghost use Rattle.std.specs.Prelude.{◌≡◌, ◌<◌, [], length, OnOk, OnErr, slice_index_or, slice_set, Some, None};
 ghost use Rattle.sim_attack.specs.Finds.{filled, find_places, is_shared as is_shared_by, place_for, shared};
 
-use sim_base::{Fixed, OutOfMemory, Point, Row};
+use sim_base::{Fixed, Global, OutOfMemory, Point, Row};
 use sim_plans::same_point;
-use std::alloc::Global;
 
 // How many finds are kept at most.
 const PLACES: usize = 256;

@@ -1,13 +1,11 @@
 //! The phase in which those without health leave.
 
-ghost use Rattle.std.specs.{Prelude.IfOk, Prelude.◌≡◌, Result.ForOk};
-ghost use Rattle.sim_base.specs.Turn.{gone, is_spent as is_spent_health};
-ghost use Rattle.sim_plans.specs.{Plans.IsPlanOf, Plans.gone_plan, SceneWords.Stands};
+ghost use Rattle.{sim_base.specs.Turn.{gone, is_spent as is_spent_health}, sim_plans.specs.{Plans.{gone_plan, IsPlanOf}, SceneWords.Stands}};
+ghost use Rattle.std.specs.{Prelude.{IfOk, ◌≡◌}, Result.ForOk};
 
-use sim_base::{Change, Changes, Items, OutOfMemory, Row, State};
+use sim_base::{Change, Changes, Global, Items, OutOfMemory, Row, State};
 use sim_plans::Scene;
 use sim_system::System;
-use std::alloc::Global;
 
 /// The changes by which every row with health 0 is removed. They fit in order, and give the phase.
 pub fn gone_changes(alloc: Global, scene: &Scene<'_>) -> Result<Changes, OutOfMemory>

@@ -2,18 +2,18 @@
 //!
 //! Each row fights against the state as it was; what landed hits take is kept in one sum for each row, at its place.
 
-ghost use Rattle.std.specs.Prelude.{[], All, IfOk, length, List, OnOk, ℕ, ◌++◌, ◌+◌, ◌<◌, ◌^◌, ◌∷◌, ◌≡◌, ◌≤◌};
-ghost use Rattle.std.specs.Result.{ForOk};
-ghost use Rattle.sim_attack.specs.{Fights.AreTaken, Fights.fought_on, Finds.Knows};
-ghost use Rattle.sim_base.specs.{Limits.IsLooselyValid, Limits.IsSetup, Turn.Hit, Turn.hit, Turn.lands as lands_by};
-ghost use Rattle.sim_plans.specs.{Plans.IsPlanOf, Plans.cooldown_change, Plans.fight_changes_of, Plans.hit_plan, Plans.hurt_changes_by, SceneWords.Stands};
+ghost use Rattle.sim_attack.specs.{Fights.{AreTaken, fought_on}, Finds.Knows};
+ghost use Rattle.sim_base.specs.{Limits.{IsLooselyValid, IsSetup}, Turn.{Hit, hit, lands as lands_by}};
+ghost use Rattle.sim_plans.specs.{Plans.{cooldown_change, fight_changes_of, hit_plan, hurt_changes_by, IsPlanOf}, SceneWords.Stands};
+ghost use Rattle.std.specs.{Prelude.{All, IfOk, length, List, OnOk, ℕ, [], ◌++◌, ◌+◌, ◌<◌, ◌^◌, ◌∷◌, ◌≡◌, ◌≤◌}, Result.ForOk};
 
 use crate::battle::Battle;
 use crate::damage::taken;
-use sim_base::{Aim, Change, Changes, Fixed, Items, OutOfMemory, Row, Setup, State, next_word};
+use sim_base::{
+    Aim, Change, Changes, Fixed, Global, Items, OutOfMemory, Row, Setup, State, next_word,
+};
 use sim_plans::{RowIndex, Scene, arms_of, is_near, resist_of};
 use sim_system::System;
-use std::alloc::Global;
 
 // For how many changes there is room beside one for each row: the word, and the healths that fall, which mostly are few.
 const SPARE: usize = 64;

@@ -1,8 +1,7 @@
 -- What is appended to a text in parts: the old text stays before them, and the new one may be cut there.
-use Rattle.std.proofs.Common.{◌≡◌, ℕ, ◌≤◌, List, ◌++◌, length, take, ap, arith, subst, sym, ◌∙◌}
-use Rattle.std.proofs.Math.Seq.{take-append_seam}
-use Rattle.std.proofs.lemmas.{List.length-append, List.length-take, List.take-take, Str.IsCharBoundary-from_take, Str.IsUtf8-string_bytes}
-use Rattle.std.specs.{Prelude.string_bytes, Prelude.String, Str.IsUtf8, String.string_len, String.Boundary.IsSplitPoint}
+use Rattle.std.proofs.Common.{ap, arith, length, List, subst, sym, take, ℕ, ◌++◌, ◌∙◌, ◌≡◌, ◌≤◌}
+use Rattle.std.proofs.{lemmas.{List.{length-append, length-take, take-take}, Str.{IsCharBoundary-from_take, IsUtf8-string_bytes}}, Math.Seq.take-append_seam}
+use Rattle.std.specs.{Prelude.{String, string_bytes}, Str.IsUtf8, String.{Boundary.IsSplitPoint, string_len}}
 
 -- the old text stands before what was appended to it, and then to that
 pub take-appended_more : (old rest mid new : List ℕ) → mid ≡ old ++ rest → take (length mid) new ≡ mid → take (length old) new ≡ old

@@ -1,13 +1,11 @@
 -- Worked matches, by computation: what turns make of a few rows, and the bytes of small states. Each value is one that was worked out by
 -- hand, so that a definition that says something else is refused here.
-use Rattle.sim_base.specs.declared.command.Command.TheVariants.{Attack, Delete, Place, Resign, Train, Walk}
-use Rattle.sim_base.specs.declared.{command.Command.Command, command.PlayerCommand.PlayerCommand, place.Point.Point, setup.First.First, setup.Setup.Setup}
-use Rattle.sim_base.specs.declared.{state.Motion.TheVariants.Going, state.Motion.TheVariants.Still, state.Row.Row, state.State.State, template.Harm.Harm}
-use Rattle.sim_base.specs.{Commands.commanded, Commands.field_of, Places.root, Spelling.i32_bytes, Spelling.moving_bytes, Spelling.spelling, Spelling.u16_bytes}
-use Rattle.sim_base.specs.{Spelling.u32_bytes, Spelling.u64_bytes, Turn.aimed, Turn.first_state, Turn.gone, Turn.hit, Turn.moved, Turn.no_resist, Turn.ticked}
-use Rattle.sim_base.{proofs.RootLemmas.root_is, specs.Turn.turn, specs.Ways.way_of, specs.declared.template.Template.Template}
-use Rattle.std.proofs.Common.{[], ap, false, fold, List, lit<, lit≤, None, pos, refl, Some, true, ℕ, ◌*◌, ◌+◌, ◌∙◌, ◌∷◌, ◌≡◌}
-use Rattle.std.specs.{List.range_with_len, Prelude.codes, Prelude.map}
+use Rattle.sim_base.{proofs.RootLemmas.root_is, specs.{Commands.{commanded, field_of}, declared.command.Command.Command}}
+use Rattle.sim_base.specs.declared.{command.{Command.TheVariants.{Attack, Delete, Place, Resign, Train, Walk}, PlayerCommand.PlayerCommand}, place.Point.Point}
+use Rattle.sim_base.specs.declared.{setup.{First.First, Setup.Setup}, state.{Motion.TheVariants.{Going, Still}, Row.Row, State.State}, template.Harm.Harm}
+use Rattle.sim_base.specs.{declared.template.Template.Template, Places.root, Spelling.{i32_bytes, moving_bytes, spelling, u16_bytes, u32_bytes, u64_bytes}}
+use Rattle.{sim_base.specs.{Turn.{aimed, first_state, gone, hit, moved, no_resist, ticked, turn}, Ways.way_of}, std.proofs.Common.{ap, false, fold, List, lit<}}
+use Rattle.std.{proofs.Common.{lit≤, None, pos, refl, Some, true, ℕ, [], ◌*◌, ◌+◌, ◌∙◌, ◌∷◌, ◌≡◌}, specs.{List.range_with_len, Prelude.{codes, map}}}
 
 -- the middle of a cell
 abbrev pub mid : ℕ → ℕ → Point

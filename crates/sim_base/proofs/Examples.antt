@@ -1,8 +1,7 @@
 -- Worked examples, computed from the definitions: each value was worked out by hand or by another program.
-use Rattle.sim_base.specs.Places.{cell_of, cells_of, centre_of, covers, is_inside, is_raw, is_rect_inside, next_word, product, quotient, rect_of, root, square}
-use Rattle.sim_base.specs.{Names.is_name, NumberText.number_of, NumberText.text_of, Ways.least_of, declared.place.Point.Point}
-use Rattle.std.proofs.Common.{[], false, lit<, lit≤, neg_ℤ, None, pos, refl, replicate, Some, true, ◌%◌, ◌∷◌, ◌≡◌}
-use Rattle.{sim_base.proofs.RootLemmas.root_is, std.specs.Fmt.digits, std.specs.Prelude.codes}
+use Rattle.sim_base.{proofs.RootLemmas.root_is, specs.{declared.place.Point.Point, Names.is_name, NumberText.{number_of, text_of}, Places.{cell_of, cells_of}}}
+use Rattle.sim_base.specs.{Places.{centre_of, covers, is_inside, is_raw, is_rect_inside, next_word, product, quotient, rect_of, root, square}, Ways.least_of}
+use Rattle.std.{proofs.Common.{false, lit<, lit≤, neg_ℤ, None, pos, refl, replicate, Some, true, [], ◌%◌, ◌∷◌, ◌≡◌}, specs.{Fmt.digits, Prelude.codes}}
 
 -- ---- products and quotients
 

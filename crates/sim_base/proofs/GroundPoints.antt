@@ -1,8 +1,7 @@
 -- Where a point lies that is on a ground: its cell is one of the ground's, and it is a point of the largest ground.
-use Rattle.sim_base.specs.declared.{place.Point.Point, setup.Land.Land, setup.Setup.Setup}
-use Rattle.sim_base.specs.{Limits.IsInside, Limits.IsLand, Limits.IsSetup, Places.IsPlaced, Places.is_inside, Places.is_within, Rows.size_of}
-use Rattle.std.proofs.Common.{arith, int_le, int_lt, IsTrue, ltb-true, negsuc, pos, sym, true, true≢false, unsigned_abs, ℕ, ℤ, ◌*◌, ◌/◌, ◌<ℤ◌, ◌<◌, ◌≡◌, ◌≤ℤ◌}
-use Rattle.std.proofs.{Common.◌≤◌, lemmas.Bool.and_parts, lemmas.Int.ints, lemmas.Nat.div_below}
+use Rattle.sim_base.specs.{declared.{place.Point.Point, setup.{Land.Land, Setup.Setup}}, Limits.{IsInside, IsLand, IsSetup}, Places.{is_inside, is_within}}
+use Rattle.{sim_base.specs.{Places.IsPlaced, Rows.size_of}, std.proofs.Common.{arith, int_le, int_lt, IsTrue, ltb-true, negsuc, pos, sym, true, true≢false}}
+use Rattle.std.proofs.{Common.{unsigned_abs, ℕ, ℤ, ◌*◌, ◌/◌, ◌<ℤ◌, ◌<◌, ◌≡◌, ◌≤ℤ◌, ◌≤◌}, lemmas.{Bool.and_parts, Int.ints, Nat.div_below}}
 
 pub below : (z : ℤ) (n : ℕ) → int_le (pos 0) z ≡ true → int_lt z (pos n) ≡ true → unsigned_abs z < n
 below (pos m) n h g = ltb-true m n g

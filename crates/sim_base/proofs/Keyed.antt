@@ -1,7 +1,6 @@
 -- Elements by their keys: each number from 1 up to a place is the key of one element, and no number from there on is that of any.
-use Rattle.std.proofs.{Math.Nat.eq-or-lt_of_le, lemmas.Bool.eq-eqb, lemmas.Bool.ne_eqb, lemmas.List.Sums.sum_by-append, lemmas.List.Sums.sum_by-cons}
-use Rattle.std.proofs.Common.{◌≡◌, ℕ, ◌+◌, ◌<◌, ◌≤◌, Bool, cond, List, [], ◌∷◌, ◌++◌, refl, ap, arith, inl, inr, sym, ◌∙◌}
-use Rattle.std.specs.Prelude.{◌==◌, sum_by, count_by}
+use Rattle.std.proofs.{Common.{ap, arith, Bool, cond, inl, inr, List, refl, sym, ℕ, [], ◌++◌, ◌+◌, ◌<◌, ◌∙◌, ◌∷◌, ◌≡◌, ◌≤◌}, lemmas.Bool.{eq-eqb, ne_eqb}}
+use Rattle.std.{proofs.{lemmas.List.Sums.{sum_by-append, sum_by-cons}, Math.Nat.eq-or-lt_of_le}, specs.Prelude.{count_by, sum_by, ◌==◌}}
 
 pub record AreKeyedBelow {H : Type 0} (key : H → ℕ) (hs : List H) (end : ℕ) : Type 0 where
   pub once : (k : ℕ) → 0 < k → k < end → count_by (λ (h : H). key h == k) hs ≡ 1

@@ -1,18 +1,16 @@
 -- A printed number reads back as itself: its text has the digits of the whole metres, a point and five digits more, and
 -- five digits, rounded up, tell each unit of 1/65536 from the next.
 use Rattle.sim_base.specs.NumberText.{are_digits, five_digits, fraction_text, in_range, is_digit, is_point, magnitude_of, magnitude_text, number_of}
-use Rattle.sim_base.specs.NumberText.{raw_of_digits, text_of}
-use Rattle.std.proofs.Common.{[], ap, append-nil, arith, Bool, cond, drop, eqb, false, get_or, leb, length, List, ltb, neg_ℤ, negsuc, None, not, Option, pos}
-use Rattle.std.proofs.Common.{refl, replicate, rules, Some, suc, take, true, zero, ℕ, ℤ, ◌%◌, ◌&&◌, ◌*◌, ◌++◌, ◌+◌, ◌-◌, ◌/◌, ◌<◌, ◌==◌, ◌^◌, ◌||◌, ◌∙◌, ◌∷◌}
-use Rattle.std.proofs.lemmas.Bool.{and_from, and_left, and_parts, and_right, cond-false, cond-true, eqb-true, le-leb, le-ltb, leb-true, lt-ltb, ne_eqb}
-use Rattle.std.proofs.lemmas.{Bool.Decides.nat_tests, Bool.not_from_false, Bool.or_from, Bool.or_left, Bool.or_right, Fmt.decimal_nonempty, Fmt.digits_decimal}
-use Rattle.std.proofs.lemmas.{Fmt.digits_value-decimal, Fmt.length-decimal-le, Int.ints, List.Folds.list_all-append, List.Folds.list_any-append}
-use Rattle.std.proofs.lemmas.{List.drop-replicate, List.drop_all, List.length-append, List.length-replicate, List.take_all, List.take_more, Nat.div_below}
-use Rattle.std.proofs.lemmas.{Nat.mul-le, Str.Parse.IsNumeralModel, Str.Parse.digit_at, Str.Parse.numerals_by_value, Str.digit_value_digit}
-use Rattle.std.proofs.{Common.◌≡◌, Common.◌≤◌, Math.Nat.pow-le-pow_right, Math.Nat.pow-succ', Math.Seq.drop-append-add, Math.Seq.take-append_seam}
-use Rattle.std.specs.Str.Parse.{digits_value, digits_value_after}
-use Rattle.std.specs.{Char.digit_value, Int.IsInRange, Int.div_ceil, Int.w32, List.after_first, List.before_first, List.list_all, List.list_any, List.position}
-use Rattle.std.specs.{List.position_or_len, List.starts_with, Prelude.FitsSigned, Prelude.codes, Prelude.decimal, Prelude.nat_eq, Prelude.option_and_then}
+use Rattle.{sim_base.specs.NumberText.{raw_of_digits, text_of}, std.proofs.Common.{ap, append-nil, arith, Bool, cond, drop, eqb, false, get_or, leb, length}}
+use Rattle.std.proofs.Common.{List, ltb, neg_ℤ, negsuc, None, not, Option, pos, refl, replicate, rules, Some, suc, take, true, zero, ℕ, ℤ, [], ◌%◌, ◌&&◌, ◌*◌}
+use Rattle.std.proofs.{Common.{◌++◌, ◌+◌, ◌-◌, ◌/◌, ◌<◌, ◌==◌, ◌^◌, ◌||◌, ◌∙◌, ◌∷◌, ◌≡◌, ◌≤◌}, lemmas.Bool.{and_from, and_left, and_parts, and_right}}
+use Rattle.std.proofs.lemmas.Bool.{cond-false, cond-true, Decides.nat_tests, eqb-true, le-leb, le-ltb, leb-true, lt-ltb, ne_eqb, not_from_false, or_from}
+use Rattle.std.proofs.lemmas.{Bool.{or_left, or_right}, Fmt.{decimal_nonempty, digits_decimal, digits_value-decimal, length-decimal-le}, Int.ints}
+use Rattle.std.proofs.lemmas.List.{drop-replicate, drop_all, Folds.{list_all-append, list_any-append}, length-append, length-replicate, take_all, take_more}
+use Rattle.std.proofs.lemmas.{Nat.{div_below, mul-le}, Str.{digit_value_digit, Parse.{digit_at, IsNumeralModel, numerals_by_value}}}
+use Rattle.std.proofs.Math.{Nat.{pow-le-pow_right, pow-succ'}, Seq.{drop-append-add, take-append_seam}}
+use Rattle.std.specs.{Char.digit_value, Int.{div_ceil, IsInRange, w32}, List.{after_first, before_first, list_all, list_any, position, position_or_len}}
+use Rattle.std.specs.{List.starts_with, Prelude.{codes, decimal, FitsSigned, nat_eq, option_and_then}, Str.Parse.{digits_value, digits_value_after}}
 
 -- Digits of a text: their value, one digit at a time; how large a raw they spell; and where the point stands among them.
 

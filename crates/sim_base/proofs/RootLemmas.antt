@@ -1,7 +1,6 @@
 -- The root of a number is determined by its square and the next one.
-use Rattle.sim_base.specs.Places.{greatest, IsRoot, root}
-use Rattle.std.proofs.Common.{Bool, ap, arith, cond, false, leb, refl, suc, sym, true, zero, ℕ, ⊎_elim, ◌*◌, ◌+◌, ◌<◌, ◌∙◌, ◌≡◌, ◌≤◌}
-use Rattle.std.proofs.{Math.Nat.eq-or-lt_of_le, lemmas.Bool.le-leb, lemmas.Bool.lt-leb, lemmas.Bool.true≢false, lemmas.Nat.mul-le}
+use Rattle.{sim_base.specs.Places.{greatest, IsRoot, root}, std.proofs.Common.{ap, arith, Bool, cond, false, leb, refl, suc, sym, true, zero, ℕ, ⊎_elim, ◌*◌}}
+use Rattle.std.proofs.{Common.{◌+◌, ◌<◌, ◌∙◌, ◌≡◌, ◌≤◌}, lemmas.{Bool.{le-leb, lt-leb, true≢false}, Nat.mul-le}, Math.Nat.eq-or-lt_of_le}
 
 -- a number that passes, where none above it does, is the greatest
 greatest_is : (test : ℕ → Bool) (bound r : ℕ) → r ≤ bound → test r ≡ true → ((k : ℕ) → r < k → k ≤ bound → test k ≡ false) → greatest test bound ≡ r

@@ -1,8 +1,7 @@
 -- Among rows whose ids ascend, an id stands once: later ones are above it, and the first row of an id is the one that was found.
-use Rattle.std.proofs.Common.{◌≡◌, ℕ, zero, suc, ◌<◌, ◌≤◌, Bool, true, false, ◌≢◌, List, [], ◌∷◌, map, length, get_or, ◌==◌, Some, None, HoldsAt, All, find}
-use Rattle.std.proofs.Common.{refl, ap, arith, eq-eqb, ne_eqb, ⊎_elim, ◌∙◌}
-use Rattle.std.proofs.lemmas.{Bool.cases_lt, List.get_or-map, List.length-map, List.Kept.AllPairs-from_increasing}
-use Rattle.{sim_base.specs.Rows.id_of, sim_base.specs.declared.state.Row.Row, std.specs.List.Sorted.IsStrictlyIncreasing}
+use Rattle.{sim_base.specs.{declared.state.Row.Row, Rows.id_of}, std.proofs.Common.{All, ap, arith, Bool, eq-eqb, false, find, get_or, HoldsAt, length, List}}
+use Rattle.std.proofs.Common.{map, ne_eqb, None, refl, Some, suc, true, zero, ℕ, ⊎_elim, [], ◌<◌, ◌==◌, ◌∙◌, ◌∷◌, ◌≡◌, ◌≢◌, ◌≤◌}
+use Rattle.std.{proofs.lemmas.{Bool.cases_lt, List.{get_or-map, Kept.AllPairs-from_increasing, length-map}}, specs.List.Sorted.IsStrictlyIncreasing}
 
 -- each id is below all later ones
 pub ids_rise : (rows : List Row) → IsStrictlyIncreasing (map id_of rows) → (i j : ℕ) (d : Row) → i < j → j < length rows

@@ -1,15 +1,12 @@
 -- What a command of a player makes of a state. A command whose condition fails leaves it.
 use Rattle.sim_base.specs.declared.change.Change.TheVariants as change
-use Rattle.sim_base.specs.declared.command.Command.TheVariants.{Attack, Delete, Place, Resign, Stop, Train, Walk}
-use Rattle.sim_base.specs.declared.template.{Arms.Arms, Base.Base, Template.Template}
-use Rattle.sim_base.specs.declared.{change.Change.Change, command.PlayerCommand.PlayerCommand, state.Motion.TheVariants.Going, state.Motion.TheVariants.Still}
-use Rattle.sim_base.specs.declared.{place.Cell.Cell, place.Point.Point, place.Rect.Rect, setup.Setup.Setup, state.Aim.Aim, state.Row.Row, state.State.State}
-use Rattle.sim_base.specs.{Limits.row_limit, Places.Field, Places.cells_of, Places.centre_of, Places.covers, Places.is_inside, Places.is_rect_inside}
-use Rattle.sim_base.specs.{Places.rect_of, Places.square, Rows.enemies_of, Rows.id_of, Rows.in_mask, Rows.rect_of_row, Rows.row_of, Rows.size_of}
-use Rattle.sim_base.specs.{Rows.target_of, Rows.template_of, Ways.least_of, declared.command.Command.Command, declared.state.Motion.Motion}
-use Rattle.std.specs.List.{list_all, list_any}
-use Rattle.std.specs.Prelude.{[], Bool, count_by, false, filter, fold, if◌then◌else◌, is_none, is_some, length, List, map, nat_le, nat_lt, None, not, Option}
-use Rattle.std.specs.Prelude.{option_map, slice_get, Some, true, unsigned_abs, ℕ, ℤ, ◌&&◌, ◌*◌, ◌++◌, ◌+◌, ◌==◌, ◌||◌, ◌∷◌}
+use Rattle.sim_base.specs.declared.{change.Change.Change, command.Command.{Command, TheVariants.{Attack, Delete, Place, Resign, Stop, Train, Walk}}}
+use Rattle.sim_base.specs.declared.{command.PlayerCommand.PlayerCommand, place.{Cell.Cell, Point.Point, Rect.Rect}, setup.Setup.Setup}
+use Rattle.sim_base.specs.declared.{state.{Aim.Aim, Motion.{Motion, TheVariants.{Going, Still}}, Row.Row, State.State}, template.{Arms.Arms, Base.Base}}
+use Rattle.sim_base.specs.{declared.template.Template.Template, Limits.row_limit, Places.{cells_of, centre_of, covers, Field, is_inside, is_rect_inside}}
+use Rattle.sim_base.specs.{Places.{rect_of, square}, Rows.{enemies_of, id_of, in_mask, rect_of_row, row_of, size_of, target_of, template_of}, Ways.least_of}
+use Rattle.std.specs.{List.{list_all, list_any}, Prelude.{Bool, count_by, false, filter, fold, if◌then◌else◌, is_none, is_some, length, List, map, nat_le}}
+use Rattle.std.specs.Prelude.{nat_lt, None, not, Option, option_map, slice_get, Some, true, unsigned_abs, ℕ, ℤ, [], ◌&&◌, ◌*◌, ◌++◌, ◌+◌, ◌==◌, ◌||◌, ◌∷◌}
 
 -- What a change makes of a state.
 

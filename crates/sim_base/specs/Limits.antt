@@ -1,10 +1,8 @@
 -- How many rows, waypoints and bytes there may be, and the limits that the setup of every match meets.
-use Rattle.sim_base.specs.declared.command.Command.TheVariants.{Attack, Delete, Place, Resign, Stop, Train, Walk}
-use Rattle.sim_base.specs.declared.{command.Command.Command, place.Point.Point, place.Rect.Rect, setup.First.First, setup.Land.Land, setup.Setup.Setup}
-use Rattle.sim_base.specs.declared.{setup.Timed.Timed, state.Aim.Aim, state.Motion.Motion, state.Motion.TheVariants.Going, state.Motion.TheVariants.Still}
-use Rattle.sim_base.specs.declared.{state.Row.Row, state.State.State, template.Arms.Arms, template.Template.Template}
-use Rattle.sim_base.specs.{Names.is_name, Places.is_inside, Places.is_rect_inside, Rows.id_of, Rows.in_mask, Rows.size_of, Rows.template_of}
-use Rattle.std.specs.List.{Sorted.IsNonDecreasing, Sorted.IsStrictlyIncreasing, list_any}
+use Rattle.sim_base.specs.declared.{command.Command.{Command, TheVariants.{Attack, Delete, Place, Resign, Stop, Train, Walk}}, place.{Point.Point, Rect.Rect}}
+use Rattle.sim_base.specs.declared.{setup.{First.First, Land.Land, Setup.Setup, Timed.Timed}, state.{Aim.Aim, Motion.{Motion, TheVariants.{Going, Still}}}}
+use Rattle.sim_base.specs.{declared.{state.{Row.Row, State.State}, template.{Arms.Arms, Template.Template}}, Names.is_name, Places.{is_inside, is_rect_inside}}
+use Rattle.{sim_base.specs.Rows.{id_of, in_mask, size_of, template_of}, std.specs.List.{list_any, Sorted.{IsNonDecreasing, IsStrictlyIncreasing}}}
 use Rattle.std.specs.Prelude.{All, AllPairs, Bool, count_by, EachIndex, false, IfSome, is_some, IsNone, IsSome, IsTrue, length, List, map, MatchOption, None}
 use Rattle.std.specs.Prelude.{Option, pos, slice_index, Some, ℕ, ℤ, ◌&&◌, ◌+◌, ◌<◌, ◌==◌, ◌^◌, ◌≡◌, ◌≢◌, ◌≤ℤ◌, ◌≤◌, ◌⊎◌}
 

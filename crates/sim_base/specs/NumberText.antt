@@ -1,8 +1,7 @@
 -- Fixed-point numbers as text, which is a list of bytes: what is read as a number, and what is printed of one.
-use Rattle.sim_base.specs.Places.{is_raw, unit}
-use Rattle.std.specs.Prelude.{[], Bool, codes, decimal, drop, if◌then◌else◌, int_lt, length, List, nat_eq, nat_le, neg_ℤ, None, not, Option, option_and_then}
-use Rattle.std.specs.Prelude.{pos, Some, unsigned_abs, ℕ, ℤ, ◌%◌, ◌&&◌, ◌*◌, ◌++◌, ◌/◌, ◌==◌, ◌^◌, ◌||◌}
-use Rattle.std.specs.{Int.div_ceil, List.after_first, List.before_first, List.list_all, List.list_any, List.starts_with, Str.Parse.digits_value}
+use Rattle.{sim_base.specs.Places.{is_raw, unit}, std.specs.{Int.div_ceil, List.{after_first, before_first, list_all, list_any, starts_with}}}
+use Rattle.std.specs.Prelude.{Bool, codes, decimal, drop, if◌then◌else◌, int_lt, length, List, nat_eq, nat_le, neg_ℤ, None, not, Option, option_and_then, pos}
+use Rattle.std.specs.{Prelude.{Some, unsigned_abs, ℕ, ℤ, [], ◌%◌, ◌&&◌, ◌*◌, ◌++◌, ◌/◌, ◌==◌, ◌^◌, ◌||◌}, Str.Parse.digits_value}
 
 -- an ASCII digit
 abbrev pub is_digit : ℕ → Bool

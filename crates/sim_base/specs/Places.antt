@@ -1,9 +1,8 @@
 -- Points, cells and rectangles of a ground.
-use Rattle.sim_base.specs.declared.place.{Cell.Cell, Point.Point, Rect.Rect}
-use Rattle.std.specs.Prelude.{[], Bool, if◌then◌else◌, int_div, int_le, int_lt, IsTrue, List, map, max, min, nat_le, nat_lt, neg_ℤ, None, Option}
-use Rattle.std.specs.Prelude.{option_and_then, pos, slice_get, slice_index_or, Some, suc, unsigned_abs, zero, ℕ, ℤ, ◌%◌, ◌&&◌, ◌*ℤ◌, ◌*◌, ◌+ℤ◌, ◌+◌, ◌-ℤ◌, ◌-◌}
-use Rattle.std.specs.Prelude.{◌==◌, ◌^◌, ◌||◌, ◌∷◌, ◌≡◌, ◌≤ℤ◌, ◌≤◌}
-use Rattle.std.specs.{Cmp.Lexicographic.pointwise, Int.abs_diff, Int.int_div_euclid, List.flat_map, List.range_with_len, Prelude.◌/◌, Prelude.◌<ℤ◌, Prelude.◌<◌}
+use Rattle.{sim_base.specs.declared.place.{Cell.Cell, Point.Point, Rect.Rect}, std.specs.Cmp.Lexicographic.pointwise}
+use Rattle.std.specs.{Int.{abs_diff, int_div_euclid}, List.{flat_map, range_with_len}, Prelude.{Bool, if◌then◌else◌, int_div, int_le, int_lt, IsTrue, List}}
+use Rattle.std.specs.Prelude.{map, max, min, nat_le, nat_lt, neg_ℤ, None, Option, option_and_then, pos, slice_get, slice_index_or, Some, suc, unsigned_abs}
+use Rattle.std.specs.Prelude.{zero, ℕ, ℤ, [], ◌%◌, ◌&&◌, ◌*ℤ◌, ◌*◌, ◌+ℤ◌, ◌+◌, ◌-ℤ◌, ◌-◌, ◌/◌, ◌<ℤ◌, ◌<◌, ◌==◌, ◌^◌, ◌||◌, ◌∷◌, ◌≡◌, ◌≤ℤ◌, ◌≤◌}
 
 -- Fixed-point numbers by their raws, the whole numbers of units of 1/65536; the root; the random word.
 

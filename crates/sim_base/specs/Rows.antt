@@ -1,8 +1,7 @@
 -- What is read of a row, by itself and beside its template.
-use Rattle.{sim_base.specs.Places.rect_of, sim_base.specs.Places.Size, std.specs.Prelude.option_and_then}
-use Rattle.std.specs.Prelude.{ℕ, ◌/◌, ◌%◌, ◌^◌, Bool, true, false, ℤ, ◌==◌, slice_get, slice_index, Some, None, find, Option, unwrap_or, option_map}
-use Rattle.sim_base.specs.declared.{place.Rect.Rect, setup.Land.Land, setup.Setup.Setup, template.Arms.Arms, template.Base.Base, template.Template.Template}
-use Rattle.sim_base.specs.declared.state.{Aim.Aim, Motion.Motion, Motion.TheVariants.Going, Motion.TheVariants.Still, Row.Row, State.State}
+use Rattle.sim_base.specs.declared.{place.Rect.Rect, setup.{Land.Land, Setup.Setup}, state.{Aim.Aim, Motion.{Motion, TheVariants.{Going, Still}}, Row.Row}}
+use Rattle.{sim_base.specs.{declared.{state.State.State, template.{Arms.Arms, Base.Base, Template.Template}}, Places.{rect_of, Size}}, std.specs.Prelude.Bool}
+use Rattle.std.specs.Prelude.{false, find, None, Option, option_and_then, option_map, slice_get, slice_index, Some, true, unwrap_or, ℕ, ℤ, ◌%◌, ◌/◌, ◌==◌, ◌^◌}
 
 abbrev pub id_of : Row → ℕ
 id_of row = row.id

@@ -1,9 +1,7 @@
 -- The bytes of a state: a head, the clock, and seven sections, each with the rows that have its part.
-use Rattle.md5.specs.Md5.{md5}
-use Rattle.sim_base.specs.declared.state.{Motion.TheVariants.Still, Row.Row, State.State}
-use Rattle.sim_base.specs.declared.{place.Point.Point, setup.Setup.Setup, state.Aim.Aim, state.Motion.Motion, state.Motion.TheVariants.Going}
-use Rattle.std.specs.Prelude.{Some, [], codes, false, if◌then◌else◌, length, option_map, pos, ℕ, ℤ, ◌%◌, ◌++◌, ◌==◌, ◌∷◌}
-use Rattle.std.specs.{Int.cast_unsigned, Int.to_le_bytes, Int.w16, Int.w32, Int.w64, List.filter_map, List.flat_map, Prelude.Bool, Prelude.List, Prelude.Option}
+use Rattle.{md5.specs.Md5.md5, sim_base.specs.declared.{place.Point.Point, setup.Setup.Setup, state.{Aim.Aim, Motion.{Motion, TheVariants.{Going, Still}}}}}
+use Rattle.{sim_base.specs.declared.state.{Row.Row, State.State}, std.specs.{Int.{cast_unsigned, to_le_bytes, w16, w32, w64}, List.{filter_map, flat_map}}}
+use Rattle.std.specs.Prelude.{Bool, codes, false, if◌then◌else◌, length, List, Option, option_map, pos, Some, ℕ, ℤ, [], ◌%◌, ◌++◌, ◌==◌, ◌∷◌}
 
 -- Numbers as bytes, the lowest byte first. They stay closed, so that no proof computes with single bytes by chance.
 

@@ -1,13 +1,12 @@
 -- A turn, and what a match has come to after a past.
 use Rattle.sim_base.specs.Commands.{aimed_at, commanded, created, field_of, is_near, released, removed, seen, with_row}
-use Rattle.sim_base.specs.declared.state.{Aim.Aim, Motion.Motion, Motion.TheVariants.Going, Motion.TheVariants.Still, Row.Row, State.State}
-use Rattle.sim_base.specs.declared.template.{Arms.Arms, Harm.Harm, Resist.Resist, Template.Template}
-use Rattle.sim_base.specs.declared.{command.PlayerCommand.PlayerCommand, place.Point.Point, setup.First.First, setup.Setup.Setup, setup.Timed.Timed}
-use Rattle.sim_base.specs.{Places.next_word, Places.product, Places.root, Places.square, Places.unit, Rows.arms_of, Rows.enemies_of, Rows.id_of, Rows.in_mask}
-use Rattle.sim_base.specs.{Rows.is_going, Rows.is_holding, Rows.row_of, Rows.speed_of, Rows.target_of, Rows.template_of, Ways.least_of, Ways.way_of}
-use Rattle.std.specs.Prelude.{[], Bool, false, filter, fold, if◌then◌else◌, int_div, int_le, is_some, List, map, nat_le, nat_lt, None, not, Option}
-use Rattle.std.specs.Prelude.{option_and_then, option_map, pos, Some, suc, sum_by, true, unsigned_abs, unwrap_or, zero, ℕ, ℤ, ◌%◌, ◌&&◌, ◌*ℤ◌, ◌*◌, ◌++◌, ◌+ℤ◌}
-use Rattle.std.specs.{Int.int_max, Ordering.int_eq, Prelude.◌+◌, Prelude.◌-ℤ◌, Prelude.◌-◌, Prelude.◌/◌, Prelude.◌==◌, Prelude.◌^◌, Prelude.◌||◌, Prelude.◌∷◌}
+use Rattle.sim_base.specs.declared.{command.PlayerCommand.PlayerCommand, place.Point.Point, setup.{First.First, Setup.Setup, Timed.Timed}}
+use Rattle.sim_base.specs.declared.state.{Aim.Aim, Motion.{Motion, TheVariants.{Going, Still}}, Row.Row, State.State}
+use Rattle.sim_base.specs.{declared.template.{Arms.Arms, Harm.Harm, Resist.Resist, Template.Template}, Places.{next_word, product, root, square, unit}}
+use Rattle.sim_base.specs.{Rows.{arms_of, enemies_of, id_of, in_mask, is_going, is_holding, row_of, speed_of, target_of, template_of}, Ways.{least_of, way_of}}
+use Rattle.std.specs.{Int.int_max, Ordering.int_eq, Prelude.{Bool, false, filter, fold, if◌then◌else◌, int_div, int_le, is_some, List, map, nat_le, nat_lt}}
+use Rattle.std.specs.Prelude.{None, not, Option, option_and_then, option_map, pos, Some, suc, sum_by, true, unsigned_abs, unwrap_or, zero, ℕ, ℤ, [], ◌%◌, ◌&&◌}
+use Rattle.std.specs.Prelude.{◌*ℤ◌, ◌*◌, ◌++◌, ◌+ℤ◌, ◌+◌, ◌-ℤ◌, ◌-◌, ◌/◌, ◌==◌, ◌^◌, ◌||◌, ◌∷◌}
 
 -- The phase in which rows move. Each is moved by the one state before the phase.
 

@@ -1,10 +1,9 @@
 -- The way from a point to another over a ground.
-use Rattle.sim_base.specs.Places.{beside_open, cell_of, cells_of, centre_of, entry, Field, is_free, is_straight, IsStep, neighbour, octile, same_cell}
-use Rattle.sim_base.specs.declared.place.Point.{Point}
-use Rattle.sim_base.specs.{Limits.waypoint_limit, Places.Size, Places.Table, Places.same_table, Places.step_cost, Places.table_of, declared.place.Cell.Cell}
-use Rattle.std.specs.Prelude.{[], Bool, false, filter_map, find, fold, if◌then◌else◌, length, List, map, MatchBool, nat_eq, nat_le, None, Option}
-use Rattle.std.specs.Prelude.{option_and_then, option_map, reverse, suc, take, true, zero, ℕ, ◌*◌, ◌+◌, ◌-◌, ◌<◌, ◌||◌, ◌∷◌, ◌≡◌, ◌≢◌, ◌≤◌}
-use Rattle.std.specs.{Cmp.Lexicographic.slice_cmp, List.range_with_len, Option.option_eq, Ordering.is_lt, Ordering.nat_cmp, Prelude.Some}
+use Rattle.sim_base.specs.{declared.place.{Cell.Cell, Point.Point}, Limits.waypoint_limit, Places.{beside_open, cell_of, cells_of, centre_of, entry, Field}}
+use Rattle.sim_base.specs.Places.{is_free, is_straight, IsStep, neighbour, octile, same_cell, same_table, Size, step_cost, Table, table_of}
+use Rattle.std.specs.{Cmp.Lexicographic.slice_cmp, List.range_with_len, Option.option_eq, Ordering.{is_lt, nat_cmp}}
+use Rattle.std.specs.Prelude.{Bool, false, filter_map, find, fold, if◌then◌else◌, length, List, map, MatchBool, nat_eq, nat_le, None, Option, option_and_then}
+use Rattle.std.specs.Prelude.{option_map, reverse, Some, suc, take, true, zero, ℕ, [], ◌*◌, ◌+◌, ◌-◌, ◌<◌, ◌||◌, ◌∷◌, ◌≡◌, ◌≢◌, ◌≤◌}
 
 -- Walks by any relation of steps, each with a cost, and the least cost of a walk.
 

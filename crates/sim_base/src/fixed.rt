@@ -1,9 +1,8 @@
 //! Fixed-point numbers: whole numbers of units of 1/65536, with arithmetic that is exact or refused. They are a type
 //! of their own, so that a raw is never taken for a number of metres.
 
-ghost use Rattle.std.specs.Int.{int_div_euclid, w32};
-ghost use Rattle.std.specs.Prelude.{FitsSigned, pos, SomeIff, ◌*ℤ◌, ◌+ℤ◌, ◌-ℤ◌, ◌≡◌, ◌≢◌};
 ghost use Rattle.sim_base.specs.Places.{product, quotient, unit};
+ghost use Rattle.std.specs.{Int.{int_div_euclid, w32}, Prelude.{FitsSigned, pos, SomeIff, ◌*ℤ◌, ◌+ℤ◌, ◌-ℤ◌, ◌≡◌, ◌≢◌}};
 
 use std::marker::Model;
 

@@ -46,3 +46,6 @@ pub use setup::{First, Firsts, Land, Setup, Timed, Timeds};
 pub use state::{Aim, MAX_ROWS, MAX_STATE, MAX_WAYPOINTS, Motion, Row, Rows, State};
 pub use step::{Event, Events, Step, Steps};
 pub use template::{Arms, Base, Harm, Resist, Template, Templates};
+
+// Where memory is taken from, passed on beside the want of it: who takes any names both in one line.
+pub use std::alloc::Global;

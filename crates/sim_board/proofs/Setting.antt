@@ -1,9 +1,8 @@
 -- A write to the row with an id is a change of each row with that id.
-use Rattle.sim_board.proofs.Common.{Row, same_lists, subst, sym, ⊎_elim, ◌∙◌}
-use Rattle.sim_board.proofs.Common.{cases_eq, cond-false, cond-true, eq-eqb, eqb-true, find_has, found, get_or-map, get_or-set_other, get_or-set_same}
-use Rattle.sim_board.proofs.Common.{get_or_default, Has, id_of, inl, inr, IsStrictlyIncreasing, length-map, length-set, map-id, map_agree, ne_eqb}
-use Rattle.sim_board.proofs.Common.{◌≡◌, ℕ, ◌<◌, Bool, true, false, cond, List, [], ◌∷◌, map, length, get_or, set, ◌==◌, Some, None, refl, ap, arith}
-use Rattle.sim_base.proofs.RowPlaces.{apart_at}
+use Rattle.{sim_base.proofs.RowPlaces.apart_at, sim_board.proofs.Common.{ap, arith, Bool, cases_eq, cond, cond-false, cond-true, eq-eqb, eqb-true, false}}
+use Rattle.sim_board.proofs.Common.{find_has, found, get_or, get_or-map, get_or-set_other, get_or-set_same, get_or_default, Has, id_of, inl, inr}
+use Rattle.sim_board.proofs.Common.{IsStrictlyIncreasing, length, length-map, length-set, List, map, map-id, map_agree, ne_eqb, None, refl, Row, same_lists}
+use Rattle.sim_board.proofs.Common.{set, Some, subst, sym, true, ℕ, ⊎_elim, [], ◌<◌, ◌==◌, ◌∙◌, ◌∷◌, ◌≡◌}
 
 -- no row has this id
 pub none_is_map : (rows : List Row) (id : ℕ) (g : Row → Row) → found rows id ≡ None → rows ≡ map (λ (row : Row). cond (row.id == id) (g row) row) rows

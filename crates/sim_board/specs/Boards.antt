@@ -1,11 +1,10 @@
 -- What becomes of a board that begins or goes on: the facts of each call by name. A clause passes ⟦<dyn System as System>⟧ for `sys`.
 use Rattle.sim_base.specs.declared.change.Change.TheVariants as change
-use Rattle.sim_base.specs.declared.{change.Change.Change, setup.Setup.Setup, state.Row.Row, state.State.State}
-use Rattle.sim_base.specs.{Commands.applied, Commands.applied_all, Limits.IsLooselyValid, Limits.IsSetup, Rows.row_of, Rows.target_of}
-use Rattle.sim_board.specs.declared.board.Board.{Board}
-use Rattle.sim_plans.specs.{RowChanges.AllFit, RowChanges.Fits, SceneWords.IsStanding}
-use Rattle.sim_system.specs.Meanings.{AreBuiltOnce, AreBuiltOnceAtMost, AreFed, HaveKinds, HaveSameRebuilds, Meaning, Systems}
-use Rattle.sim_system.specs.{RigWords.systems_by, RigWords.systems_of, declared.rig.Rig.Rig, declared.system.System.Ghosts}
+use Rattle.sim_base.specs.{Commands.{applied, applied_all}, declared.{change.Change.Change, setup.Setup.Setup, state.{Row.Row, State.State}}}
+use Rattle.{sim_base.specs.{Limits.{IsLooselyValid, IsSetup}, Rows.{row_of, target_of}}, sim_board.specs.declared.board.Board.Board}
+use Rattle.sim_plans.specs.{RowChanges.{AllFit, Fits}, SceneWords.IsStanding}
+use Rattle.sim_system.specs.{declared.{rig.Rig.Rig, system.System.Ghosts}, Meanings.AreBuiltOnce}
+use Rattle.sim_system.specs.{Meanings.{AreBuiltOnceAtMost, AreFed, HaveKinds, HaveSameRebuilds, Meaning, Systems}, RigWords.{systems_by, systems_of}}
 use Rattle.std.specs.Prelude.{Bool, false, IsOk, List, MatchOption, OnErr, OnOk, Result, true, ◌≡◌}
 
 -- What a board is to its callers. A clause passes ⟦<dyn System as System>⟧ for `sys`.

@@ -7,10 +7,9 @@ ghost use Rattle.{sim_plans.specs.RowChanges.Fits, sim_plans.specs.SceneWords.St
 
 use crate::build::build;
 use crate::first::first_state;
-use sim_base::{Change, Items, OutOfMemory, Setup, State};
+use sim_base::{Change, Global, Items, OutOfMemory, Setup, State};
 use sim_plans::Scene;
 use sim_system::{Rig, System};
-use std::alloc::Global;
 
 /// A match in progress: its state, and the systems that are told of each change. It is whole while they stand for the
 /// state. Where the row of the last change stood is a hint for the next.

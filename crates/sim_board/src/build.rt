@@ -1,13 +1,11 @@
 //! The systems are built from a state.
 
+ghost use Rattle.{sim_board.specs.Boards.IsLooseIn, sim_system.specs.{Meanings.{AreBuiltOnce, AreBuiltOnceAtMost, AreFed, HaveKinds}, RigWords.systems_of}};
 ghost use Rattle.std.specs.Prelude.{OnOk};
-ghost use Rattle.sim_board.specs.Boards.{IsLooseIn};
-ghost use Rattle.sim_system.specs.{Meanings.AreBuiltOnce, Meanings.AreBuiltOnceAtMost, Meanings.AreFed, Meanings.HaveKinds, RigWords.systems_of};
 
 use crate::row::told;
-use sim_base::{OutOfMemory, Setup, State};
+use sim_base::{Global, OutOfMemory, Setup, State};
 use sim_system::{Rig, System, boxed};
-use std::alloc::Global;
 
 /// Builds each of the four once.
 pub fn build(alloc: Global, setup: &Setup, state: &State, rig: &mut Rig) -> Result<(), OutOfMemory>

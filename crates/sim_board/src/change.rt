@@ -1,16 +1,13 @@
 //! The state after a change. No system is told here. Near which place the row of a change stands is a hint.
 
-ghost use Rattle.std.specs.List.Sorted.{IsStrictlyIncreasing};
-ghost use Rattle.std.specs.Prelude.{[], IsOk, length, map, OnOk, ◌-◌, ◌<◌, ◌^◌, ◌≡◌};
-ghost use Rattle.sim_base.specs.{Commands.applied, Commands.created, Rows.id_of, declared.setup.Setup.Setup as SetupOf};
-ghost use Rattle.sim_board.specs.{Boards.IsLooseIn, Boards.IsNoCreation, Boards.IsNoRemoval, Letting.left_by};
-ghost use Rattle.sim_plans.specs.RowChanges.{Fits};
+ghost use Rattle.sim_base.specs.{Commands.{applied, created}, declared.setup.Setup.Setup as SetupOf, Rows.id_of};
+ghost use Rattle.{sim_board.specs.{Boards.{IsLooseIn, IsNoCreation, IsNoRemoval}, Letting.left_by}, sim_plans.specs.RowChanges.Fits};
+ghost use Rattle.std.specs.{List.Sorted.IsStrictlyIncreasing, Prelude.{IsOk, length, map, OnOk, [], ◌-◌, ◌<◌, ◌^◌, ◌≡◌}};
 
 use crate::edit::{add_row, release_rows, take_row};
 use crate::near::place_near;
 use crate::row::Birth;
-use sim_base::{Change, Items, Motion, OutOfMemory, Row, Setup, State};
-use std::alloc::Global;
+use sim_base::{Change, Global, Items, Motion, OutOfMemory, Row, Setup, State};
 
 /// The state after a change that fits it, where no row leaves. A motion is taken out of the change.
 pub fn make(

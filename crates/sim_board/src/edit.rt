@@ -1,9 +1,8 @@
 //! A row is released, leaves or is made. It is found near the last one or by halves, and no other is touched.
 
-ghost use Rattle.std.specs.List.Sorted.{IsStrictlyIncreasing};
-ghost use Rattle.std.specs.Prelude.{[], filter, map, not, OnOk, ◌++◌, ◌==◌, ◌∷◌, ◌≡◌};
-ghost use Rattle.sim_base.specs.{Commands.new_row as row_made, Commands.released as released_by, Rows.id_of, declared.state.Row.Row as AnyRow};
+ghost use Rattle.sim_base.specs.{Commands.{new_row as row_made, released as released_by}, declared.state.Row.Row as AnyRow, Rows.id_of};
 ghost use Rattle.sim_board.specs.Letting.{row_released, rows_released};
+ghost use Rattle.std.specs.{List.Sorted.IsStrictlyIncreasing, Prelude.{filter, map, not, OnOk, [], ◌++◌, ◌==◌, ◌∷◌, ◌≡◌}};
 
 use crate::near::place_near;
 use crate::row::Birth;

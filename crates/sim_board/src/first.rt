@@ -5,8 +5,7 @@ ghost use Rattle.sim_base.specs.{Limits.IsSetup, Limits.IsValid, Turn.first_stat
 
 use crate::change::create;
 use crate::row::Birth;
-use sim_base::{Items, OutOfMemory, Setup, State};
-use std::alloc::Global;
+use sim_base::{Global, Items, OutOfMemory, Setup, State};
 
 /// The entities of the match file are made one by one.
 pub fn first_state(alloc: Global, setup: &Setup) -> Result<State, OutOfMemory>

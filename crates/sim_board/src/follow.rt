@@ -1,8 +1,7 @@
 //! A board over a list of changes: whatever is applied after a start or an adoption, its scene stands.
 
-ghost use Rattle.sim_base.specs.{Commands.applied_all, Limits.IsSetup, Limits.IsValid, Turn.first_state};
-ghost use Rattle.sim_board.specs.Boards.{Begins, IsWhole, MakesAll, setup_in, state_in, systems};
-ghost use Rattle.{sim_plans.specs.RowChanges.AllFit, sim_system.specs.Meanings.HaveKinds};
+ghost use Rattle.{sim_base.specs.{Commands.applied_all, Limits.{IsSetup, IsValid}, Turn.first_state}, sim_board.specs.Boards.{Begins, IsWhole, MakesAll}};
+ghost use Rattle.{sim_board.specs.Boards.{setup_in, state_in, systems}, sim_plans.specs.RowChanges.AllFit, sim_system.specs.Meanings.HaveKinds};
 
 use crate::board::Board;
 use sim_base::{Changes, OutOfMemory, State};

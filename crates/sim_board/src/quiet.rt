@@ -1,10 +1,9 @@
 //! Aims by which rows keep their targets: a fighter waits, or has hit. No system is told of them, and a phase has one for each
 //! fighter, so the rows are taken out of the state once for all of them.
 
-ghost use Rattle.std.specs.List.Sorted.{IsStrictlyIncreasing};
-ghost use Rattle.std.specs.Prelude.{drop, IfNone, IfSome, length, map, ◌≡◌, ◌≤◌};
-ghost use Rattle.{sim_base.specs.Rows.id_of, sim_board.specs.Boards.AreAroundKept, sim_board.specs.Boards.IsWhole, sim_board.specs.Boards.LeadsOn};
-ghost use Rattle.{sim_board.specs.Boards.rig_in, sim_board.specs.Boards.setup_in, sim_board.specs.Boards.state_in, sim_plans.specs.RowChanges.AllFit};
+ghost use Rattle.{sim_base.specs.Rows.id_of, sim_board.specs.Boards.{AreAroundKept, IsWhole, LeadsOn, rig_in, setup_in, state_in}};
+ghost use Rattle.sim_plans.specs.RowChanges.{AllFit};
+ghost use Rattle.std.specs.{List.Sorted.IsStrictlyIncreasing, Prelude.{drop, IfNone, IfSome, length, map, ◌≡◌, ◌≤◌}};
 
 use crate::board::Board;
 use crate::change::take_rows;

@@ -1,16 +1,13 @@
 //! A living row, and what systems are told of it.
 
-ghost use Rattle.std.specs.List.Sorted.{IsStrictlyIncreasing};
-ghost use Rattle.std.specs.Prelude.{IfOk, IsSome, length, map, slice_get, Some, ◌<◌, ◌≡◌};
-ghost use Rattle.sim_base.specs.{Commands.new_row, Places.IsPlaced, Rows.id_of, Rows.row_of, declared.template.Template.Template as AnyTemplate};
-ghost use Rattle.sim_board.specs.Boards.{IsLooseIn};
-ghost use Rattle.sim_system.specs.Notes.{fact_of as fact_by, told_of, vision_of as vision_by};
+ghost use Rattle.sim_base.specs.{Commands.new_row, declared.template.Template.Template as AnyTemplate, Places.IsPlaced, Rows.{id_of, row_of}};
+ghost use Rattle.{sim_board.specs.Boards.IsLooseIn, sim_system.specs.Notes.{fact_of as fact_by, told_of, vision_of as vision_by}};
+ghost use Rattle.std.specs.{List.Sorted.IsStrictlyIncreasing, Prelude.{IfOk, IsSome, length, map, slice_get, Some, ◌<◌, ◌≡◌}};
 
 use crate::near::place_near;
-use sim_base::{Fixed, OutOfMemory, Point, Row, Setup, State, rect_of};
+use sim_base::{Fixed, Global, OutOfMemory, Point, Row, Setup, State, rect_of};
 use sim_plans::{arms_of, target_of, template_at};
 use sim_system::{Fact, Facts};
-use std::alloc::Global;
 
 /// What a row that is made is given: the number of its template, its place and its owner.
 #[derive(Clone, Copy, Debug)]

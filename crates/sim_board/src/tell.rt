@@ -1,8 +1,7 @@
 //! One note to all four systems.
 
+ghost use Rattle.{sim_board.specs.{Boards.AreKept, Hearing.{all_told, AllMayHear}}, sim_system.specs.{Meanings.HaveKinds, RigWords.systems_of}};
 ghost use Rattle.std.specs.Prelude.{OnOk, ◌≡◌};
-ghost use Rattle.sim_board.specs.{Boards.AreKept, Hearing.AllMayHear, Hearing.all_told};
-ghost use Rattle.sim_system.specs.{Meanings.HaveKinds, RigWords.systems_of};
 
 use sim_base::OutOfMemory;
 use sim_system::{Note, Rig, System, boxed};

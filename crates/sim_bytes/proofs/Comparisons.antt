@@ -1,8 +1,7 @@
 -- A comparison goes on.
-use Rattle.{sim_bytes.specs.Telling.Compared, std.proofs.lemmas.Bool.eqb-true, std.proofs.lemmas.Bool.false≢true, std.proofs.lemmas.Bool.Decides.Decides-eqb}
-use Rattle.std.proofs.Common.{◌≡◌, ℕ, ◌<◌, Bool, true, false, eqb, List, [], ◌∷◌, ◌++◌, length, take, drop, refl, ap, append_assoc, arith, sym, ◌∙◌}
-use Rattle.std.proofs.lemmas.{List.append-nil, List.append_cancel_left, List.length-append, List.take-append-drop, List.take_at, Slice.Eq.slice_eq-Decides}
-use Rattle.std.specs.{Bool.Decides, Cmp.Lexicographic.pointwise}
+use Rattle.{sim_bytes.specs.Telling.Compared, std.proofs.Common.{ap, append_assoc, arith, Bool, drop, eqb, false, length, List, refl, sym, take, true, ℕ, []}}
+use Rattle.std.proofs.{Common.{◌++◌, ◌<◌, ◌∙◌, ◌∷◌, ◌≡◌}, lemmas.{Bool.{Decides.Decides-eqb, eqb-true, false≢true}, List.{append-nil, append_cancel_left}}}
+use Rattle.std.{proofs.lemmas.{List.{length-append, take-append-drop, take_at}, Slice.Eq.slice_eq-Decides}, specs.{Bool.Decides, Cmp.Lexicographic.pointwise}}
 
 pub compared_more : (wanted rest bytes told front back : List ℕ) (same : Bool) → same ≡ pointwise eqb front bytes → front ≡ take (length bytes) rest
     → back ≡ drop (length bytes) rest

@@ -1,8 +1,7 @@
 -- Steps of the loops over rows.
-use Rattle.std.proofs.Common.{[], append_assoc, arith, false, get_or, length, List, None, Option, refl, Some, suc, sym, take, true, ℕ, ◌++◌, ◌+◌, ◌-◌, ◌<◌, ◌∙◌}
-use Rattle.std.proofs.lemmas.List.{Concat.flat_map-append, Elements.filter_map-append, append-nil, length-append, take_more}
-use Rattle.std.specs.{List.cons_option, List.filter_map, List.flat_map, Prelude.is_some}
-use Rattle.{sim_bytes.specs.Reading.Reader, sim_bytes.specs.Walking.skipped, std.proofs.Common.◌∷◌, std.proofs.Common.◌≡◌, std.proofs.Common.◌≤◌}
+use Rattle.{sim_bytes.specs.{Reading.Reader, Walking.skipped}, std.proofs.Common.{append_assoc, arith, false, get_or, length, List, None, Option, refl, Some}}
+use Rattle.std.proofs.{Common.{suc, sym, take, true, ℕ, [], ◌++◌, ◌+◌, ◌-◌, ◌<◌, ◌∙◌, ◌∷◌, ◌≡◌, ◌≤◌}, lemmas.List.{append-nil, Concat.flat_map-append}}
+use Rattle.std.{proofs.lemmas.List.{Elements.filter_map-append, length-append, take_more}, specs.{List.{cons_option, filter_map, flat_map}, Prelude.is_some}}
 
 pub filter_map_more : {X Y : Type 0} (h : X → Option Y) (xs : List X) (i : ℕ) (x : X) (o : Option Y) → i < length xs → x ≡ get_or xs i x → o ≡ h x
     → filter_map h (take (i + 1) xs) ≡ filter_map h (take i xs) ++ cons_option o []

@@ -1,12 +1,9 @@
 -- Points that stand one behind the other, each in eight bytes.
-use Rattle.sim_base.specs.Spelling.{flag_bytes, motion_bytes, point_bytes}
-use Rattle.sim_base.specs.declared.{place.Point.Point, state.Motion.TheVariants.Going}
-use Rattle.sim_bytes.specs.{Rows.front_at, Rows.point_at, Rows.point_in, Rows.points_at, Telling.Tells}
-use Rattle.std.proofs.Common.{[], ap, append_assoc, arith, Bool, cond, drop, Err, false, length, List, ltb, map, None, Ok, OnOk, refl, Result, Some, subst, suc}
-use Rattle.std.proofs.Common.{sym, take, true, zero, ℕ, ◌*◌, ◌++◌, ◌+◌, ◌<◌, ◌∙◌, ◌∷◌, ◌≡◌, ◌≤◌}
-use Rattle.std.proofs.lemmas.Bool.{le-ltb, lt-ltb, ltb-false, ltb-true}
-use Rattle.std.proofs.lemmas.List.{Concat.flat_map-append, drop-drop, drop-take, length-append, length-drop, length-map}
-use Rattle.std.specs.{List.flat_map, Simd.first_chunks}
+use Rattle.sim_base.specs.{declared.{place.Point.Point, state.Motion.TheVariants.Going}, Spelling.{flag_bytes, motion_bytes, point_bytes}}
+use Rattle.{sim_bytes.specs.{Rows.{front_at, point_at, point_in, points_at}, Telling.Tells}, std.proofs.Common.{ap, append_assoc, arith, Bool, cond, drop, Err}}
+use Rattle.std.proofs.Common.{false, length, List, ltb, map, None, Ok, OnOk, refl, Result, Some, subst, suc, sym, take, true, zero, ℕ, [], ◌*◌, ◌++◌, ◌+◌, ◌<◌}
+use Rattle.std.proofs.{Common.{◌∙◌, ◌∷◌, ◌≡◌, ◌≤◌}, lemmas.{Bool.{le-ltb, lt-ltb, ltb-false, ltb-true}, List.Concat.flat_map-append}}
+use Rattle.std.{proofs.lemmas.List.{drop-drop, drop-take, length-append, length-drop, length-map}, specs.{List.flat_map, Simd.first_chunks}}
 
 take-take : (k m : ℕ) (xs : List ℕ) → k ≤ m → take k (take m xs) ≡ take k xs
 take-take zero m xs le = refl

@@ -1,6 +1,5 @@
 -- Which texts are hexadecimal.
-use Rattle.std.specs.List.{list_all}
-use Rattle.std.specs.Prelude.{◌≡◌, ℕ, ◌%◌, Bool, ◌&&◌, ◌||◌, List, length, IsTrue, nat_le}
+use Rattle.std.specs.{List.list_all, Prelude.{Bool, IsTrue, length, List, nat_le, ℕ, ◌%◌, ◌&&◌, ◌||◌, ◌≡◌}}
 
 -- one of 0 to 9 and a to f
 abbrev pub is_digit : ℕ → Bool

@@ -1,15 +1,13 @@
 -- The bytes of a row are read as that row, whatever follows. From this one law of each form follows that no row's bytes begin another's.
-use Rattle.sim_base.specs.Spelling.{attack_bytes, attack_part, entity_bytes, entity_part, flag_bytes, health_bytes, health_part, i32_bytes, motion_bytes}
-use Rattle.sim_base.specs.Spelling.{motion_part, moving_bytes, owner_bytes, owner_part, point_bytes, position_bytes, position_part, stance_bytes, stance_part}
-use Rattle.sim_base.specs.declared.{place.Point.Point, state.Motion.Motion, state.Motion.TheVariants.Going, state.Motion.TheVariants.Still, state.Row.Row}
-use Rattle.sim_bytes.specs.Numbers.{i32_back, length-i32_bytes, length-u16_bytes, length-u32_bytes, u16_back, u32_back}
-use Rattle.sim_bytes.specs.Rows.{IsShort, IsStance, motion_at, moving_at, owner_at, point_at, points_at, position_at, stance_at, with_id}
+use Rattle.sim_base.specs.{declared.{place.Point.Point, state.{Motion.{Motion, TheVariants.{Going, Still}}, Row.Row}}, Spelling.{attack_bytes, attack_part}}
+use Rattle.sim_base.specs.Spelling.{entity_bytes, entity_part, flag_bytes, health_bytes, health_part, i32_bytes, motion_bytes, motion_part, moving_bytes}
+use Rattle.sim_base.specs.Spelling.{owner_bytes, owner_part, point_bytes, position_bytes, position_part, stance_bytes, stance_part, u16_bytes, u32_bytes}
+use Rattle.sim_bytes.specs.{Numbers.{i32_back, length-i32_bytes, length-u16_bytes, length-u32_bytes, u16_back, u32_back}, Reading.Reader}
 use Rattle.sim_bytes.specs.Rows.{attack_at, entity_at, HasShortWay, health_at, IsAttack, IsEntity, IsHealth, IsMotion, IsMoving, IsOwner, IsPoint, IsPosition}
-use Rattle.std.proofs.Common.{[], ap, append_assoc, arith, Bool, cond, eqb, false, length, length-append, List, ltb, None, not, Option, pos, refl, rules, Some}
-use Rattle.std.proofs.Common.{sym, true, ℕ, ℤ, ◌*◌, ◌++◌, ◌∙◌, ◌∷◌, ◌≡◌, ◌≤◌}
-use Rattle.std.proofs.lemmas.List.{append-nil}
-use Rattle.std.specs.{List.AllByRecursion, List.flat_map, Prelude.IfSome, Prelude.option_map}
-use Rattle.{sim_base.specs.Spelling.u16_bytes, sim_base.specs.Spelling.u32_bytes, sim_bytes.specs.Reading.Reader, std.proofs.lemmas.Bool.le-ltb}
+use Rattle.sim_bytes.specs.Rows.{IsShort, IsStance, motion_at, moving_at, owner_at, point_at, points_at, position_at, stance_at, with_id}
+use Rattle.std.proofs.Common.{ap, append_assoc, arith, Bool, cond, eqb, false, length, length-append, List, ltb, None, not, Option, pos, refl, rules, Some, sym}
+use Rattle.std.proofs.{Common.{true, ℕ, ℤ, [], ◌*◌, ◌++◌, ◌∙◌, ◌∷◌, ◌≡◌, ◌≤◌}, lemmas.{Bool.le-ltb, List.append-nil}}
+use Rattle.std.specs.{List.{AllByRecursion, flat_map}, Prelude.{IfSome, option_map}}
 
 -- where rows are read back, no row's bytes begin another's
 pub prefix_nil : {X : Type 0} (at : Reader X) (spelled : X → List ℕ) (IsRow : X → Type 0)

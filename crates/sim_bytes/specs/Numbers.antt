@@ -1,10 +1,8 @@
 -- A number's bytes are read as that number, whatever follows.
-use Rattle.sim_base.specs.Spelling.{i32_bytes, u16_bytes, u32_bytes, u64_bytes}
-use Rattle.sim_bytes.specs.Reading.{number_at, signed_at}
-use Rattle.std.proofs.Common.{List, Some, arith, false, length, ltb, refl, ℕ, ℤ, ◌++◌, ◌<◌, ◌^◌, ◌≡◌}
-use Rattle.std.proofs.lemmas.{Bool.le-ltb, Int.to_z-of_z, List.drop_at, List.length-append, List.take_at, Nat.from_le_bytes-to_le_bytes_2}
-use Rattle.std.proofs.{Math.Facts.Fits-of_z, lemmas.Nat.from_le_bytes-to_le_bytes_4, lemmas.Nat.from_le_bytes-to_le_bytes_8}
-use Rattle.std.specs.{Int.Width, Int.byte_len, Int.cast_unsigned, Int.from_le_bytes, Int.to_le_bytes, Int.w16, Int.w32, Int.w64, Prelude.FitsSigned}
+use Rattle.{sim_base.specs.Spelling.{i32_bytes, u16_bytes, u32_bytes, u64_bytes}, sim_bytes.specs.Reading.{number_at, signed_at}}
+use Rattle.std.proofs.{Common.{arith, false, length, List, ltb, refl, Some, ℕ, ℤ, ◌++◌, ◌<◌, ◌^◌, ◌≡◌}, lemmas.{Bool.le-ltb, Int.to_z-of_z, List.drop_at}}
+use Rattle.std.proofs.lemmas.{List.{length-append, take_at}, Nat.{from_le_bytes-to_le_bytes_2, from_le_bytes-to_le_bytes_4, from_le_bytes-to_le_bytes_8}}
+use Rattle.std.{proofs.Math.Facts.Fits-of_z, specs.{Int.{byte_len, cast_unsigned, from_le_bytes, to_le_bytes, w16, w32, w64, Width}, Prelude.FitsSigned}}
 
 pub number_back : (w : Width) (n : ℕ) (rest : List ℕ) → length (to_le_bytes w n) ≡ byte_len w → from_le_bytes w (to_le_bytes w n) ≡ n
     → number_at w (to_le_bytes w n ++ rest) ≡ Some (n, rest)

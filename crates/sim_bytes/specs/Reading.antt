@@ -1,8 +1,7 @@
 -- What is read from the front of bytes: a value and the bytes after it, or nothing. A reader is a function on lists, so that readers
 -- are put together from smaller ones by `>>=`.
-use Rattle.std.specs.Int.{byte_len, cast_signed, from_le_bytes, w32, Width}
-use Rattle.std.specs.Prelude.{◌≡◌, ℕ, List, [], ◌∷◌, length, take, drop, ℤ, if◌then◌else◌, nat_lt, Some, None, Ok, Err, Option, Result}
-use Rattle.sim_bytes.specs.declared.take.Short.{Short}
+use Rattle.{sim_bytes.specs.declared.take.Short.Short, std.specs.Int.{byte_len, cast_signed, from_le_bytes, w32, Width}}
+use Rattle.std.specs.Prelude.{drop, Err, if◌then◌else◌, length, List, nat_lt, None, Ok, Option, Result, Some, take, ℕ, ℤ, [], ◌∷◌, ◌≡◌}
 
 -- the second step, if the first gave a value
 infixl 10 ◌>>=◌

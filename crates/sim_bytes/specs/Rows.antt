@@ -1,10 +1,9 @@
 -- The rows of the sections as they are read: for each an id and a part, with the bytes that follow.
-use Rattle.sim_base.specs.declared.{place.Point.Point, state.Motion.Motion, state.Motion.TheVariants.Going, state.Motion.TheVariants.Still, state.Row.Row}
-use Rattle.sim_bytes.specs.Reading.{byte_at, number_at, Reader, signed_at, ◌>>=◌}
-use Rattle.sim_bytes.specs.declared.version.Version.{TheVariants.One, TheVariants.Two, Version}
-use Rattle.std.specs.Prelude.{[], Bool, drop, false, FitsSigned, IfSome, if◌then◌else◌, length, List, nat_lt, None, not, Option, option_map, Some, suc, take}
-use Rattle.std.specs.{Int.cast_signed, Int.from_le_bytes, Int.w16, Int.w32, List.AllByRecursion, Prelude.true, Prelude.zero, Prelude.ℕ, Prelude.ℤ, Prelude.◌<◌}
-use Rattle.{sim_base.specs.Limits.waypoint_limit, std.specs.Prelude.◌==◌, std.specs.Prelude.◌^◌, std.specs.Prelude.◌∷◌, std.specs.Prelude.◌≤◌}
+use Rattle.sim_base.specs.{declared.{place.Point.Point, state.{Motion.{Motion, TheVariants.{Going, Still}}, Row.Row}}, Limits.waypoint_limit}
+use Rattle.sim_bytes.specs.{declared.version.Version.{TheVariants.{One, Two}, Version}, Reading.{byte_at, number_at, Reader, signed_at}}
+use Rattle.sim_bytes.specs.Reading.{◌>>=◌}
+use Rattle.std.specs.{Int.{cast_signed, from_le_bytes, w16, w32}, List.AllByRecursion, Prelude.{Bool, drop, false, FitsSigned, IfSome, if◌then◌else◌, length}}
+use Rattle.std.specs.Prelude.{List, nat_lt, None, not, Option, option_map, Some, suc, take, true, zero, ℕ, ℤ, [], ◌<◌, ◌==◌, ◌^◌, ◌∷◌, ◌≤◌}
 
 -- a part beside the id of its row
 abbrev pub with_id : {X : Type 0} → (Row → Option X) → Row → Option (ℕ × X)

@@ -1,8 +1,7 @@
 -- What the bytes of a section are read as, where its rows are read back.
-use Rattle.sim_base.specs.Spelling.{section, u32_bytes}
-use Rattle.sim_bytes.specs.{Numbers.u32_back, Reading.Reader, Walking.IsAhead, Walking.row_if, Walking.section_at, Walking.skipped}
-use Rattle.std.proofs.Common.{[], ap, append_assoc, length, List, None, Option, refl, Some, ℕ, ◌++◌, ◌<◌, ◌^◌, ◌∙◌, ◌∷◌, ◌≡◌}
-use Rattle.std.{proofs.lemmas.Bool.eq-eqb, specs.List.AllByRecursion, specs.List.cons_option, specs.List.flat_map, specs.Prelude.IfSome, specs.Prelude.is_some}
+use Rattle.{sim_base.specs.Spelling.{section, u32_bytes}, sim_bytes.specs.{Numbers.u32_back, Reading.Reader, Walking.{IsAhead, row_if, section_at, skipped}}}
+use Rattle.std.proofs.{Common.{ap, append_assoc, length, List, None, Option, refl, Some, ℕ, [], ◌++◌, ◌<◌, ◌^◌, ◌∙◌, ◌∷◌, ◌≡◌}, lemmas.Bool.eq-eqb}
+use Rattle.std.specs.{List.{AllByRecursion, cons_option, flat_map}, Prelude.{IfSome, is_some}}
 
 abbrev pub Back : {X : Type 0} → (X → Type 0) → (X → List ℕ) → Reader X → Type 0
 Back {X} Fits spelled at = (x : X) (rest : List ℕ) → Fits x → at (spelled x ++ rest) ≡ Some (x, rest)

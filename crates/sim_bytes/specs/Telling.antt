@@ -1,6 +1,5 @@
 -- What a place to which bytes go was told.
-use Rattle.std.specs.Prelude.{◌≡◌, ℕ, ◌≤◌, Bool, true, false, List, ◌++◌, length, Vec}
-use Rattle.std.specs.declared.alloc.Global.{Global}
+use Rattle.std.specs.{declared.alloc.Global.Global, Prelude.{Bool, false, length, List, true, Vec, ℕ, ◌++◌, ◌≡◌, ◌≤◌}}
 
 -- whatever was told before, these bytes came after it; `about` is what the place was made for, and stays
 abbrev pub Tells : {K : Type 0} → (K → List ℕ → List ℕ → Type 0) → K → K → List ℕ → Type 0

@@ -1,9 +1,8 @@
 //! What the rows of every section have in common. Writers and readers are written once over this trait, so that a new
 //! section is one more form and no change of theirs.
 
-ghost use Rattle.{sim_base.specs.declared.state.Row.Row, sim_bytes.specs.Reading.Reader, sim_bytes.specs.Reading.Reads, sim_bytes.specs.Telling.Tells};
-ghost use Rattle.std.specs.Prelude.{◌≡◌, ℕ, ◌≤◌, List, [], ◌++◌, length, is_some, IfSome, OnOk, Some, Option};
-ghost use Rattle.sim_bytes.specs.Rows.{HasShortWay};
+ghost use Rattle.{sim_base.specs.declared.state.Row.Row, sim_bytes.specs.{Reading.{Reader, Reads}, Rows.HasShortWay, Telling.Tells}};
+ghost use Rattle.std.specs.Prelude.{IfSome, is_some, length, List, OnOk, Option, Some, ℕ, [], ◌++◌, ◌≡◌, ◌≤◌};
 
 use crate::{ByteSink, Short, Take};
 use sim_base::Row;

@@ -1,11 +1,9 @@
 //! Hexadecimal text: two digits a byte, in lower case alone, so that bytes have one text.
 
-ghost use Rattle.{sim_bytes.specs.Hex.is_digit, sim_bytes.specs.Hex.IsHex, std.specs.List.list_all, std.specs.String.string_bytes};
-ghost use Rattle.std.specs.Prelude.{◌≡◌, ◌<◌, ◌↔◌, ◌++◌, length, IfSome, IfOk, IfErr, OnOk, OnErr, IsSome, IsTrue, None, Ok};
-ghost use Rattle.hex.specs.Hex.{decode_of, encode_lower};
+ghost use Rattle.{hex.specs.Hex.{decode_of, encode_lower}, sim_bytes.specs.Hex.{is_digit, IsHex}, std.specs.List.list_all};
+ghost use Rattle.std.specs.{Prelude.{IfErr, IfOk, IfSome, IsSome, IsTrue, length, None, Ok, OnErr, OnOk, ◌++◌, ◌<◌, ◌↔◌, ◌≡◌}, String.string_bytes};
 
-use sim_base::OutOfMemory;
-use std::alloc::Global;
+use sim_base::{Global, OutOfMemory};
 
 /// Appends two digits for each byte, or leaves the text as it was.
 pub fn push_hex(out: &mut String, bytes: &[u8]) -> Result<(), OutOfMemory>

@@ -1,9 +1,7 @@
 //! Theorems about the definitions, each the contract of a function that does nothing.
 
-ghost use Rattle.std.specs.Int.{w16, w32, w64};
-ghost use Rattle.std.specs.Prelude.{FitsSigned, List, Some, ℕ, ℤ, ◌++◌, ◌<◌, ◌^◌, ◌≡◌};
-ghost use Rattle.sim_base.specs.Spelling.{i32_bytes, u16_bytes, u32_bytes, u64_bytes};
-ghost use Rattle.sim_bytes.specs.Reading.{number_at, signed_at};
+ghost use Rattle.{sim_base.specs.Spelling.{i32_bytes, u16_bytes, u32_bytes, u64_bytes}, sim_bytes.specs.Reading.{number_at, signed_at}};
+ghost use Rattle.std.specs.{Int.{w16, w32, w64}, Prelude.{FitsSigned, List, Some, ℕ, ℤ, ◌++◌, ◌<◌, ◌^◌, ◌≡◌}};
 
 /// The bytes of a number are read as that number, whatever follows them.
 pub fn numbers_are_read_back()

@@ -1,11 +1,10 @@
 //! The row of a motion: its length depends on the way. The way is lent by what the row is made of, a state or its bytes,
 //! so that a row is read and told without memory and is small.
 
-ghost use Rattle.std.specs.List.{flat_map};
-ghost use Rattle.std.specs.Prelude.{IfOk, length, map, OnOk, ℕ, ◌++◌, ◌+◌, ◌≡◌, ◌≤◌};
-ghost use Rattle.sim_base.specs.declared.state.Motion.TheVariants.{Going, Still};
-ghost use Rattle.sim_base.specs.{Limits.waypoint_limit, Spelling.flag_bytes, Spelling.motion_bytes, Spelling.moving_bytes, Spelling.point_bytes};
-ghost use Rattle.sim_bytes.specs.{Reading.Reads, Reading.ReadsBy, Rows.IsShort, Rows.front_at, Rows.point_at, Rows.point_in, Rows.points_at, Telling.Tells};
+ghost use Rattle.sim_base.specs.{declared.state.Motion.TheVariants.{Going, Still}, Limits.waypoint_limit};
+ghost use Rattle.sim_base.specs.Spelling.{flag_bytes, motion_bytes, moving_bytes, point_bytes};
+ghost use Rattle.sim_bytes.specs.{Reading.{Reads, ReadsBy}, Rows.{front_at, IsShort, point_at, point_in, points_at}, Telling.Tells};
+ghost use Rattle.std.specs.{List.flat_map, Prelude.{IfOk, length, map, OnOk, ℕ, ◌++◌, ◌+◌, ◌≡◌, ◌≤◌}};
 
 use crate::form::RowForm;
 use crate::{Buffer, ByteSink, Short, Take, tell_i32, tell_u8, tell_u32};
@@ -26,9 +25,8 @@ pub struct MotionRow<'a> {
 }
 
 impl<'a> Model for MotionRow<'a> {
+    ghost use Rattle.{sim_base.specs.{declared.state.Motion.{Motion, TheVariants.{Going, Still}}, Limits.waypoint_limit}, sim_bytes.specs.Rows.point_in};
     ghost use Rattle.std.specs.Prelude.{if◌then◌else◌, length, map, ℕ, ◌++◌, ◌+◌, ◌≤◌};
-    ghost use Rattle.sim_base.specs.declared.state.Motion.{Motion, TheVariants.Going, TheVariants.Still};
-    ghost use Rattle.{sim_base.specs.Limits.waypoint_limit, sim_bytes.specs.Rows.point_in};
 
     ghost Value = { ℕ × Motion };
 

@@ -1,8 +1,7 @@
 //! A section: a tag, the number of its rows, and the rows. Written once for all forms.
 
-ghost use Rattle.std.specs.{List.filter_map, List.flat_map, Prelude.All, Prelude.OnOk, Prelude.length, Prelude.◌<◌, Prelude.◌^◌, Prelude.◌≡◌, Prelude.◌≤◌};
-ghost use Rattle.sim_base.specs.Spelling.{section};
-ghost use Rattle.sim_bytes.specs.{Reading.Reads, Rows.HasShortWay, Telling.Tells, Walking.Skips, Walking.row_if, Walking.section_at};
+ghost use Rattle.{sim_base.specs.Spelling.section, sim_bytes.specs.{Reading.Reads, Rows.HasShortWay, Telling.Tells, Walking.{row_if, section_at, Skips}}};
+ghost use Rattle.std.specs.{List.{filter_map, flat_map}, Prelude.{All, length, OnOk, ◌<◌, ◌^◌, ◌≡◌, ◌≤◌}};
 
 use crate::form::RowForm;
 use crate::{ByteSink, Short, Take, tell_u8, tell_u32};

@@ -1,9 +1,8 @@
 //! Places to which bytes are told piece by piece. One writer serves them all: what is spelled into a list is also what
 //! is digested and what is compared, with no copy between.
 
-ghost use Rattle.std.specs.Prelude.{[], IsTrue, List, OnErr, OnOk, ℕ, ◌↔◌, ◌∷◌, ◌≡◌};
-ghost use Rattle.sim_base.specs.Spelling.{i32_bytes, u16_bytes, u32_bytes, u64_bytes};
-ghost use Rattle.sim_bytes.specs.Telling.{Compared, ListHolds, Tells};
+ghost use Rattle.{sim_base.specs.Spelling.{i32_bytes, u16_bytes, u32_bytes, u64_bytes}, sim_bytes.specs.Telling.{Compared, ListHolds, Tells}};
+ghost use Rattle.std.specs.Prelude.{IsTrue, List, OnErr, OnOk, ℕ, [], ◌↔◌, ◌∷◌, ◌≡◌};
 
 use sim_base::OutOfMemory;
 use std::convert::Infallible;

@@ -1,9 +1,8 @@
 //! All sections at once: a reader in each of them, and what stands there of one entity. The readers go on in lockstep,
 //! so that no row is looked up by its id and no list of a section's rows is made.
 
+ghost use Rattle.sim_bytes.specs.{Reading.Reads, Walking.{aim_of, holds as is_held, parts_at, sections_at, stances_at, Walks}};
 ghost use Rattle.std.specs.Prelude.{◌≡◌};
-ghost use Rattle.sim_bytes.specs.Reading.{Reads};
-ghost use Rattle.sim_bytes.specs.Walking.{aim_of, holds as is_held, parts_at, sections_at, stances_at, Walks};
 
 use crate::{
     AttackRow, EntityRow, HealthRow, MotionRow, OwnerRow, PositionRow, RowForm, Short, StanceRow,

@@ -1,7 +1,6 @@
 -- A look in other words holds what it held before, and where there is no state it still says so.
-use Rattle.std.specs.Prelude.{Err, IfOk, None, Ok, Option, Result, Some}
-use Rattle.{sim_base.specs.declared.memory.OutOfMemory.OutOfMemory, sim_base.specs.declared.state.State.State, sim_c.specs.Gives.looked}
-use Rattle.{sim_held.specs.Clients.LooksAt, std.proofs.Common.ap, std.proofs.Common.◌≡◌}
+use Rattle.{sim_base.specs.declared.{memory.OutOfMemory.OutOfMemory, state.State.State}, sim_c.specs.Gives.looked, sim_held.specs.Clients.LooksAt}
+use Rattle.std.{proofs.Common.{ap, ◌≡◌}, specs.Prelude.{Err, IfOk, None, Ok, Option, Result, Some}}
 
 pub looked_is : {X Y : Type 0} (f : X → Y) (P : State → Y → Type 0) (state : Option State) (answer : Result (Option X) OutOfMemory)
     → IfOk answer (LooksAt state (λ at x. P at (f x))) → IfOk (looked f answer) (LooksAt state P)

@@ -1,6 +1,5 @@
 -- An answer in other words holds what it held before, and has the same cause.
-use Rattle.std.specs.Prelude.{Ok, Err, IfOk, IfErr, Result}
-use Rattle.{sim_c.specs.Gives.mapped, sim_embed.specs.declared.refused.Refused.Refused}
+use Rattle.{sim_c.specs.Gives.mapped, sim_embed.specs.declared.refused.Refused.Refused, std.specs.Prelude.{Err, IfErr, IfOk, Ok, Result}}
 
 pub mapped_is : {X Y : Type 0} (f : X → Y) (P : Y → Type 0) (answer : Result X Refused) → IfOk answer (λ x. P (f x)) → IfOk (mapped f answer) P
 mapped_is f P (Ok x) holds = holds

@@ -2,9 +2,8 @@
 --     pair, pair_fits        how the two lie in the machine, and that they fit there
 --     parts_out, parts_in    what is owned is [the box; what frees it], and the other way
 use Rattle.sim_c.specs.contracts.kept.Kept as kept
-use Rattle.std.proofs.{Common.List, Common.[], Common.refl, Common.subst, Common.ℕ, Common.◌++◌, Common.◌∷◌, Common.◌≡◌, alloc.Calls.Al}
-use Rattle.std.{proofs.alloc.Calls.handle_tells, proofs.cell.Inside.Good, specs.declared.alloc.Allocator.Ghosts}
-use Rattle.std_alloc.{proofs.ResultValues.and_tt, specs.Box.Ownership.box_owns}
+use Rattle.std.proofs.{alloc.Calls.{Al, handle_tells}, cell.Inside.Good, Common.{List, refl, subst, ℕ, [], ◌++◌, ◌∷◌, ◌≡◌}}
+use Rattle.{std.specs.declared.alloc.Allocator.Ghosts, std_alloc.{proofs.ResultValues.and_tt, specs.Box.Ownership.box_owns}}
 use base.Logic.{fst∗, never}
 use denote.{Builtin.RawPtr, Memory.lone, Param.Laws.Laws, Param.layout, RattleType.RattleType, RattleType.Valss, RawPtr.Ptr, RawPtr.block_ptr}
 use denote.{RawPtr.in_a_block, RawPtr.null_ptr, RawPtr.ptr_val, Steps.nothing, Struct.Owning.shape, Struct.Struct.within}

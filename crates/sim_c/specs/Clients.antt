@@ -1,7 +1,6 @@
 -- What a call makes of the client that a handle holds, beside what the calls of `sim_held` say.
-use Rattle.{sim_c.specs.declared.standing.Standing.Standing, sim_client.specs.Lives.Joining, sim_client.specs.Lives.Life, sim_client.specs.Lives.Off}
-use Rattle.{sim_client.specs.Lives.On, sim_held.specs.Clients.ClientView, sim_held.specs.Clients.IsSame, sim_held.specs.Clients.life}
-use Rattle.std.specs.Prelude.{[], if◌then◌else◌, ◌≡◌, length, List, nat_le, ℕ}
+use Rattle.{sim_c.specs.declared.standing.Standing.Standing, sim_client.specs.Lives.{Joining, Life, Off, On}, sim_held.specs.Clients.{ClientView, IsSame, life}}
+use Rattle.std.specs.Prelude.{if◌then◌else◌, length, List, nat_le, ℕ, [], ◌≡◌}
 
 -- what waits is put into a room and let go, where the room is large enough
 pub record LetsGo (room : List ℕ) (old new : ClientView) : Type 0 where

@@ -1,7 +1,6 @@
 -- What a call makes of the server that a handle holds, beside what the calls of `sim_held` say.
-use Rattle.std.specs.Prelude.{◌≡◌, ◌≢◌, ℕ, List, [], length, ℤ, pos, if◌then◌else◌, nat_lt, true, false}
-use Rattle.sim_c.specs.Gives.{put_in, room_status}
-use Rattle.sim_held.specs.Servers.{frames_for, is_client, Leaves, ServerView, waiting}
+use Rattle.{sim_c.specs.Gives.{put_in, room_status}, sim_held.specs.Servers.{frames_for, is_client, Leaves, ServerView, waiting}}
+use Rattle.std.specs.Prelude.{false, if◌then◌else◌, length, List, nat_lt, pos, true, ℕ, ℤ, [], ◌≡◌, ◌≢◌}
 
 -- the client of a number: 0, which is nobody's, stands for those that no byte holds
 abbrev pub number_of : ℕ → ℕ

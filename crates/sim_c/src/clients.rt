@@ -1,9 +1,8 @@
 //! A client that a handle holds. Each clause is that of the call of `sim_held` of the same name.
 
+ghost use Rattle.sim_c.specs.{Clients.{LetsGo, standing_of}, Gives.{Answers, Comes, GivesPlayed, IsClient, OfClient, Opens, put_in, room_status, went_status}};
+ghost use Rattle.{sim_embed.specs.{Bytes.OfMatch, Causes.IsNoMatch}, sim_held.specs.Clients.{HearsFrame, IsCutOff, IsNew, Joins, life, Orders, Plays}};
 ghost use Rattle.std.specs.Prelude.{IfErr, IfOk, length, not, option_map, pos, ◌==◌, ◌≡◌};
-ghost use Rattle.sim_c.specs.Gives.{Answers, Comes, GivesPlayed, IsClient, OfClient, Opens, put_in, room_status, went_status};
-ghost use Rattle.sim_held.specs.Clients.{HearsFrame, IsCutOff, IsNew, Joins, Orders, Plays, life};
-ghost use Rattle.{sim_c.specs.Clients.LetsGo, sim_c.specs.Clients.standing_of, sim_embed.specs.Bytes.OfMatch, sim_embed.specs.Causes.IsNoMatch};
 
 use crate::Fault;
 use crate::giving::fill;

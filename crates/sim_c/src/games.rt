@@ -1,9 +1,8 @@
 //! A match that a handle holds. Each clause is that of the call of `sim_held` of the same name.
 
+ghost use Rattle.{sim_base.specs.Turn.first_state, sim_c.specs.Gives.{Answers, Comes, GivesPlayed, GivesValue, IsGame, OfGame, Opens}};
+ghost use Rattle.{sim_embed.specs.{Bytes.{OfMatch, OfState}, Causes.{IsNoMatch, IsNoStateOf}}, sim_held.specs.Games.{PlaysGame, PlaysOwnTurns}};
 ghost use Rattle.std.specs.Prelude.{IfErr, IfOk, option_map, pos, ◌≡◌};
-ghost use Rattle.sim_c.specs.Gives.{Answers, Comes, GivesValue, IsGame, OfGame, Opens};
-ghost use Rattle.{sim_base.specs.Turn.first_state, sim_embed.specs.Causes.IsNoMatch, sim_embed.specs.Causes.IsNoStateOf, sim_held.specs.Games.PlaysOwnTurns};
-ghost use Rattle.{sim_c.specs.Gives.GivesPlayed, sim_embed.specs.Bytes.OfMatch, sim_embed.specs.Bytes.OfState, sim_held.specs.Games.PlaysGame};
 
 use crate::Fault;
 use crate::giving_held::give_played;

@@ -4,9 +4,8 @@
 //! C owes this of a handle, and nothing tells when it fails: that it is all zeroes or was left so by a call of this library, that no copy of
 //! it is used, and that no two calls have it at once.
 
-ghost use Rattle.{sim_c.specs.Owned.handle_owns, sim_c.specs.Owned.Value, sim_c.specs.Owned.value_code, std.specs.Coded.coded_option};
-ghost use Rattle.std.specs.Prelude.{◌≡◌, MatchOption};
-ghost use Rattle.std.specs.declared.option.Option.{Option, TheVariants.None, TheVariants.Some};
+ghost use Rattle.sim_c.specs.Owned.{handle_owns, Value, value_code};
+ghost use Rattle.std.specs.{Coded.coded_option, declared.option.Option.{Option, TheVariants.{None, Some}}, Prelude.{MatchOption, ◌≡◌}};
 
 use crate::kept::Kept;
 use sim_held::Held;

@@ -1,11 +1,10 @@
 //! Calls that keep nothing: bytes come in, and bytes, numbers and a status go out. Each clause is that of the library's call of the same
 //! name, and how its answer is put where C wants it.
 
-ghost use Rattle.std.specs.Prelude.{map, ◌≡◌};
 ghost use Rattle.sim_c.specs.Gives.{Answers, GivesItems, GivesPlace, GivesStored, GivesValue, outs, stamp};
-ghost use Rattle.sim_embed.specs.Facts.{IsDifference, IsStamp, StoresFirst, StoresTurn, entity_of, facts_of};
-ghost use Rattle.sim_embed.specs.{Bytes.OfMatch, Bytes.OfState, Bytes.OfStates, Causes.AreNoStatesOf, Causes.IsNoMatch, Causes.IsNoStateOf, Causes.IsNoTurn};
-ghost use Rattle.sim_report.specs.Show.{show_text};
+ghost use Rattle.sim_embed.specs.{Bytes.{OfMatch, OfState, OfStates}, Causes.{AreNoStatesOf, IsNoMatch, IsNoStateOf, IsNoTurn}};
+ghost use Rattle.{sim_embed.specs.Facts.{entity_of, facts_of, IsDifference, IsStamp, StoresFirst, StoresTurn}, sim_report.specs.Show.show_text};
+ghost use Rattle.std.specs.Prelude.{map, ◌≡◌};
 
 use crate::Fault;
 use crate::giving::{give_entities, give_facts, give_place, give_stamp, give_stored, give_text};

@@ -1,18 +1,16 @@
 //! Looks at the state to which a game, or a client that is on, has come. Nothing that is held changes.
 
-ghost use Rattle.std.specs.Prelude.{IfOk, map, pos, Some, ◌≡◌};
 ghost use Rattle.sim_c.specs.Gives.{Comes, GivesLook, GivesSheet, GivesStamp, Looks, sheet, stamp, there_is};
-ghost use Rattle.{sim_embed.specs.Facts.IsStamp, sim_embed.specs.Facts.IsStored, sim_embed.specs.Facts.entity_of, sim_held.specs.Clients.LooksAt};
-ghost use Rattle.{sim_held.specs.Clients.LooksAtClient, sim_report.specs.Show.show_text};
+ghost use Rattle.{sim_embed.specs.Facts.{entity_of, IsStamp, IsStored}, sim_held.specs.Clients.{LooksAt, LooksAtClient}, sim_report.specs.Show.show_text};
+ghost use Rattle.std.specs.Prelude.{IfOk, map, pos, Some, ◌≡◌};
 
 use crate::giving_held::{give_held_stamp, give_items, give_shown, give_state};
 use crate::handle::Handle;
 use crate::holding::with_held;
 use crate::status::BAD_HANDLE;
-use sim_base::OutOfMemory;
+use sim_base::{Global, OutOfMemory};
 use sim_embed::Entity;
 use sim_held::{Held, HeldClient, HeldMatch};
-use std::alloc::Global;
 
 // What there is for sure.
 fn there<T>(answer: Result<T, OutOfMemory>) -> Result<Option<T>, OutOfMemory>

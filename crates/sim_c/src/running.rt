@@ -1,8 +1,7 @@
 //! Any command of the program as one call, which keeps nothing. Its clause is that of the run of `sim_packed`, and how what that came to is
 //! put where C wants it.
 
-ghost use Rattle.sim_c.specs.GivesRun.{AnswersRun, GivesRun, papers};
-ghost use Rattle.sim_packed.specs.Files.{IsRun, IsUnrun};
+ghost use Rattle.{sim_c.specs.GivesRun.{AnswersRun, GivesRun, papers}, sim_packed.specs.Files.{IsRun, IsUnrun}};
 
 use crate::giving_run::give_run;
 use std::alloc::Global;

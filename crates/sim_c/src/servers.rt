@@ -1,10 +1,9 @@
 //! A turn server that a handle holds. Each clause is that of the call of `sim_held` of the same name.
 
-ghost use Rattle.std.specs.Prelude.{IfErr, IfOk, option_map, pos, ◌≡◌, ◌⊎◌};
 ghost use Rattle.sim_c.specs.Gives.{Answers as IsAnswered, Comes, IsServer, OfServer, Opens, went_status};
-ghost use Rattle.sim_c.specs.Servers.{Sends, SendsNothing, count_of as count_by, number_of as number_by};
-ghost use Rattle.{sim_embed.specs.Bytes.OfMatch, sim_embed.specs.Causes.IsNoMatch, sim_held.specs.Servers.HasLost, sim_held.specs.Servers.HearsFrame};
-ghost use Rattle.{sim_held.specs.Servers.IsServerOf, sim_server.specs.Standing.server_of};
+ghost use Rattle.{sim_c.specs.Servers.{count_of as count_by, number_of as number_by, Sends, SendsNothing}, sim_embed.specs.{Bytes.OfMatch, Causes.IsNoMatch}};
+ghost use Rattle.{sim_held.specs.Servers.{HasLost, HearsFrame, IsServerOf}, sim_server.specs.Standing.server_of};
+ghost use Rattle.std.specs.Prelude.{IfErr, IfOk, option_map, pos, ◌≡◌, ◌⊎◌};
 
 use crate::Fault;
 use crate::giving::fill;

@@ -1,13 +1,12 @@
 -- The numbers before and after a note.
+use Rattle.{sim_base.specs.{declared.setup.Land.Land, Limits.IsLand}, sim_census.specs.Owners.{AreCounts, is_owned_by}}
 use Rattle.sim_fact_lists.proofs.OneFact.{count_after, found_all, noted_only, OnlyAt, part_is, rising}
 use Rattle.sim_fact_lists.specs.Changes.{Holds, HoldsIfAny, id_in, IsHeld, one_if, part_noted, passes}
-use Rattle.sim_system.specs.declared.{ask.Answer.TheVariants.Number, ask.Ask.Ask, ask.Ask.TheVariants.Count, fact.Fact.Fact, kind.Kind.TheVariants.Census}
-use Rattle.sim_system.specs.{Meanings.answer, Meanings.population_among, Notes.NoteFits, Notes.fact_with, Notes.kept_of, Notes.noted, Notes.part_for}
-use Rattle.std.proofs.Common.{[], All, ap, arith, Bool, cond, false, get_or, inl, inr, length, List, None, Option, refl, Some, subst, sym, true, ℕ, ◌+◌, ◌<◌}
-use Rattle.std.proofs.lemmas.List.{Elements.All-head, Elements.All-tail, Elements.All-weaker, Sums.count_by-le-length, Sums.sum_by-cons, get_or_past}
-use Rattle.std.proofs.{Common.◌∙◌, Common.◌∷◌, Common.◌≡◌, Common.◌≤◌, lemmas.Bool.cases_lt, lemmas.Bool.eq-eqb, lemmas.Bool.ne_eqb}
-use Rattle.{sim_base.specs.Limits.IsLand, sim_census.specs.Owners.AreCounts, std.specs.Prelude.IfSome, std.specs.Prelude.MatchOption, std.specs.Prelude.◌==◌}
-use Rattle.{sim_base.specs.declared.setup.Land.Land, sim_census.specs.Owners.is_owned_by, sim_system.specs.declared.note.Note.Note, std.specs.Prelude.count_by}
+use Rattle.sim_system.specs.declared.{ask.{Answer.TheVariants.Number, Ask.{Ask, TheVariants.Count}}, fact.Fact.Fact, kind.Kind.TheVariants.Census}
+use Rattle.sim_system.specs.{declared.note.Note.Note, Meanings.{answer, population_among}, Notes.{fact_with, kept_of, noted, NoteFits, part_for}}
+use Rattle.std.proofs.Common.{All, ap, arith, Bool, cond, false, get_or, inl, inr, length, List, None, Option, refl, Some, subst, sym, true, ℕ, [], ◌+◌, ◌<◌}
+use Rattle.std.proofs.{Common.{◌∙◌, ◌∷◌, ◌≡◌, ◌≤◌}, lemmas.{Bool.{cases_lt, eq-eqb, ne_eqb}, List.{Elements.{All-head, All-tail, All-weaker}, get_or_past}}}
+use Rattle.std.{proofs.lemmas.List.Sums.{count_by-le-length, sum_by-cons}, specs.Prelude.{count_by, IfSome, MatchOption, ◌==◌}}
 
 tally : (p : Fact → Bool) (f : Fact) (facts : List Fact) → count_by p (f ∷ facts) ≡ one_if (p f) + count_by p facts
 tally p f facts = sum_by-cons (λ (g : Fact). one_if (p g)) f facts

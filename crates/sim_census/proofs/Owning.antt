@@ -1,17 +1,14 @@
 -- A list of entities and their owners: where one stands, and what the list stands for after an edit there.
-use Rattle.sim_census.specs.{Owners.IsOfOwner, Owners.fact_in, Owners.facts_in, Owners.owner_fact, declared.owned.Owned.Owned}
-use Rattle.sim_fact_lists.proofs.OneFact.{ascends, found_all, replaced, rising}
-use Rattle.sim_fact_lists.proofs.Standing.{found_read, nothing_new, put_new, put_nothing, put_over, rises}
+use Rattle.{sim_base.specs.declared.setup.Land.Land, sim_census.specs.{declared.owned.Owned.Owned, Owners.{fact_in, facts_in, IsOfOwner, owner_fact}}}
+use Rattle.sim_fact_lists.proofs.{OneFact.{ascends, found_all, replaced, rising}, Standing.{found_read, nothing_new, put_new, put_nothing, put_over, rises}}
 use Rattle.sim_fact_lists.specs.Changes.{Ascend, Belongs, part_noted, Stands, with_only}
+use Rattle.sim_system.specs.{declared.{fact.Fact.Fact, kind.Kind.TheVariants.Census, note.Note.{Note, TheVariants.{Aimed, Born, Gone}}}, Meanings.Meaning}
+use Rattle.{sim_system.specs.Notes.{fact_with, id_of_fact, kept_of}, std.proofs.Common.{All, ap, arith, Bool, cond, false, get_or, inl, inr, length, List, map}}
+use Rattle.std.proofs.Common.{None, Option, refl, set, Some, subst, suc, sym, take, true, zero, ℕ, [], ◌<◌, ◌∙◌, ◌∷◌, ◌≡◌, ◌≤◌}
+use Rattle.std.proofs.lemmas.{Bool.{cases_lt, Decides.nat_tests}, Cmp.ranked, List.{Elements.{All-cons, All-nil}, get_or-map, length-map, map-set, take_all}}
+use Rattle.std.specs.List.{insert, remove, Sorted.{IsBinarySearchResult, IsNonDecreasingBy, IsSearchInRange, IsStrictlyIncreasing}}
+use Rattle.std.specs.{Ordering.{nat_cmp, ordering_index}, Prelude.{Err, IfSome, MatchResult, Ok, Result}}
 use Rattle.sim_system.specs.declared.note.Note.TheVariants.{Moved, Owned as OwnedNote}
-use Rattle.sim_system.specs.declared.{fact.Fact.Fact, kind.Kind.TheVariants.Census, note.Note.Note, note.Note.TheVariants.Aimed, note.Note.TheVariants.Born}
-use Rattle.sim_system.specs.{Meanings.Meaning, Notes.fact_with, Notes.id_of_fact, Notes.kept_of, declared.note.Note.TheVariants.Gone}
-use Rattle.std.proofs.Common.{[], All, ap, arith, Bool, cond, false, get_or, inl, inr, length, List, map, None, Option, refl, set, Some, subst, suc, sym, take}
-use Rattle.std.proofs.Common.{true, zero, ℕ, ◌<◌, ◌∙◌, ◌∷◌, ◌≡◌, ◌≤◌}
-use Rattle.std.proofs.lemmas.{Bool.Decides.nat_tests, Bool.cases_lt, Cmp.ranked, List.Elements.All-cons, List.Elements.All-nil, List.get_or-map}
-use Rattle.std.specs.List.{Sorted.IsBinarySearchResult, Sorted.IsNonDecreasingBy, Sorted.IsSearchInRange, Sorted.IsStrictlyIncreasing, insert, remove}
-use Rattle.std.specs.{Ordering.nat_cmp, Ordering.ordering_index, Prelude.Err, Prelude.IfSome, Prelude.MatchResult, Prelude.Ok, Prelude.Result}
-use Rattle.{sim_base.specs.declared.setup.Land.Land, std.proofs.lemmas.List.length-map, std.proofs.lemmas.List.map-set, std.proofs.lemmas.List.take_all}
 
 -- stands for an entity past the end
 abbrev nobody : Owned

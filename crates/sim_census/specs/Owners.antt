@@ -1,6 +1,5 @@
 -- What a list of entities and their owners stands for.
-use Rattle.sim_census.specs.declared.owned.Owned.{Owned}
-use Rattle.sim_system.specs.{Meanings.population_among, Notes.origin, declared.fact.Fact.Fact}
+use Rattle.{sim_census.specs.declared.owned.Owned.Owned, sim_system.specs.{declared.fact.Fact.Fact, Meanings.population_among, Notes.origin}}
 use Rattle.std.specs.Prelude.{Bool, false, List, map, None, slice_index, ℕ, ◌<◌, ◌==◌, ◌≡◌}
 
 -- the fact of an entity of which only its owner is told

@@ -6,10 +6,9 @@ ghost use Rattle.{sim_census.specs.Owners.AreCounts, sim_census.specs.Owners.fac
 
 use crate::counts::{counts_of, join, leave};
 use crate::owners::Owners;
-use sim_base::{Land, OutOfMemory};
+use sim_base::{Global, Land, OutOfMemory};
 use sim_fact_lists::{copy_of, id_of, part_after};
 use sim_system::{Answer, Ask, Fact, Kind, Note, System};
-use std::alloc::Global;
 
 /// Keeps the owner of each entity, and how many each owner has.
 #[derive(Drop)]

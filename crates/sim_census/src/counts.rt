@@ -1,8 +1,7 @@
 //! How many entities each owner has: nine numbers, since a match has at most nine owners.
 
+ghost use Rattle.{sim_census.specs.Owners.{AreCounts, is_owned_by}, sim_fact_lists.specs.Changes.{one_if, passes}, sim_system.specs.Meanings.population_among};
 ghost use Rattle.std.specs.Prelude.{IfSome, length, slice_index, ℕ, ◌+◌, ◌<◌, ◌≡◌, ◌≤◌};
-ghost use Rattle.{sim_census.specs.Owners.AreCounts, sim_census.specs.Owners.is_owned_by, sim_fact_lists.specs.Changes.one_if};
-ghost use Rattle.{sim_fact_lists.specs.Changes.passes, sim_system.specs.Meanings.population_among};
 
 use sim_system::Fact;
 

@@ -1,15 +1,13 @@
 //! The owner of each entity, in a list by id: eight bytes an entity and not the fact that they stand for, so that little moves along
 //! the list when one leaves.
 
-ghost use Rattle.std.specs.Prelude.{[], IfOk, IfSome, MatchResult, OnErr, OnOk, true, ◌≡◌};
-ghost use Rattle.sim_census.specs.Owners.{facts_in, IsOfOwner, owner_fact};
-ghost use Rattle.sim_fact_lists.specs.Changes.{Ascend, Belongs, Stands, with_only};
-ghost use Rattle.sim_system.specs.{Notes.fact_with, Notes.kept_of, declared.kind.Kind.TheVariants.Census as CensusKind};
+ghost use Rattle.{sim_census.specs.Owners.{facts_in, IsOfOwner, owner_fact}, sim_fact_lists.specs.Changes.{Ascend, Belongs, Stands, with_only}};
+ghost use Rattle.sim_system.specs.{declared.kind.Kind.TheVariants.Census as CensusKind, Notes.{fact_with, kept_of}};
+ghost use Rattle.std.specs.Prelude.{IfOk, IfSome, MatchResult, OnErr, OnOk, true, [], ◌≡◌};
 
 use crate::owned::Owned;
-use sim_base::{Fixed, OutOfMemory, Point};
+use sim_base::{Fixed, Global, OutOfMemory, Point};
 use sim_system::Fact;
-use std::alloc::Global;
 use std::cell::Cell;
 
 /// Entities and their owners, ascending by id. The place of the last that was found is a hint for the next.

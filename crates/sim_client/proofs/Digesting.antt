@@ -1,6 +1,5 @@
 -- The digests of a state are the same in every match of one id.
-use Rattle.sim_client.proofs.Common.{◌≡◌, digest, Setup, State, subst, sym, ◌∙◌}
-use Rattle.sim_client.specs.{Kept.AreDigests, declared.digests.Both.Both}
+use Rattle.sim_client.{proofs.Common.{digest, Setup, State, subst, sym, ◌∙◌, ◌≡◌}, specs.{declared.digests.Both.Both, Kept.AreDigests}}
 
 digest_by_id : (setup other : Setup) (state : State) → other.id ≡ setup.id → digest other state ≡ digest setup state
 unfolding digest

@@ -3,17 +3,15 @@ use Rattle.sim_base.specs.declared.step.Event.TheVariants as event
 use Rattle.sim_plain.specs.declared.message.DownOf.TheVariants as down
 use Rattle.sim_plain.specs.declared.message.UpOf.TheVariants as up
 use Rattle.sim_plain_session.specs.Clients as plain
-use Rattle.sim_base.specs.{Rows.row_of, Spelling.digest, Spelling.mark, Spelling.spelling, Turn.Past, Turn.after, Turn.may_bend, Turn.turns_in}
-use Rattle.sim_client.proofs.Common.{Option, orders, PlayerCommand, put, refl, Setup, Some, State, true, ℕ, ◌&&◌, ◌++◌, ◌+◌, ◌==◌, ◌∷◌, ◌≡◌}
-use Rattle.sim_client.proofs.Common.{[], Act, ap, arith, bent, Bool, Command, false, hears, if◌then◌else◌, is_client, Life, List, ltb-true, nat_lt, None, On}
+use Rattle.sim_base.specs.{declared.step.Event.Event, Rows.row_of, Spelling.{digest, mark, spelling}, Turn.{after, may_bend, Past, turns_in}}
+use Rattle.sim_client.proofs.Common.{Act, ap, arith, bent, Bool, Command, false, hears, if◌then◌else◌, is_client, Life, List, ltb-true, nat_lt, None, On}
+use Rattle.sim_client.proofs.Common.{Option, orders, PlayerCommand, put, refl, Setup, Some, State, true, ℕ, [], ◌&&◌, ◌++◌, ◌+◌, ◌==◌, ◌∷◌, ◌≡◌}
 use Rattle.sim_client.specs.Lives.{BendingFollows, bends, Follows, hands_on, hearing_shown, HearingFollows, Joining, JoiningFollows, learns, loads, may_order}
 use Rattle.sim_client.specs.Lives.{may_play, may_tell_done, Off, order_shown, ordered, OrderingFollows, played, PlayingFollows, plays, refused, releases}
-use Rattle.sim_client.specs.Lives.{shows_after, told, told_alone, told_with_done}
-use Rattle.sim_plain_session.proofs.PlayerLemmas.{beginning_stands, bending_stands, learning_stands, playing_stands, same_mark, same_turn}
-use Rattle.std.{proofs.Common.◌<◌, proofs.lemmas.Bool.ltb-false, specs.Prelude.max, specs.Prelude.min, specs.Prelude.ℤ}
-use Rattle.{sim_base.specs.declared.step.Event.Event, sim_client.specs.Lives.StartingFollows, sim_client.specs.Lives.says_of}
-use Rattle.{sim_laws.proofs.Turning.after_counts_turns, sim_plain.proofs.Calm.put_other, sim_plain.specs.Messages.carry_down}
-use Rattle.{sim_plain_session.specs.Players.IsPlayerOf, sim_plain_session.specs.Players.Player, sim_plain_session.specs.Sessions.spelled, std.proofs.Common.suc}
+use Rattle.{sim_client.specs.Lives.{says_of, shows_after, StartingFollows, told, told_alone, told_with_done}, sim_laws.proofs.Turning.after_counts_turns}
+use Rattle.{sim_plain.{proofs.Calm.put_other, specs.Messages.carry_down}, sim_plain_session.proofs.PlayerLemmas.beginning_stands}
+use Rattle.sim_plain_session.{proofs.PlayerLemmas.{bending_stands, learning_stands, playing_stands, same_mark, same_turn}, specs.Players.{IsPlayerOf, Player}}
+use Rattle.{sim_plain_session.specs.Sessions.spelled, std.{proofs.{Common.{suc, ◌<◌}, lemmas.Bool.ltb-false}, specs.Prelude.{max, min, ℤ}}}
 
 pub starting_follows : StartingFollows
 starting_follows setup = beginning_stands setup (min setup.turns setup.delay) (min setup.turns setup.delay) []

@@ -1,10 +1,9 @@
 -- What a client says has frames, where it orders or plays.
 use Rattle.sim_plain.specs.declared.message.UpOf.TheVariants as up
-use Rattle.sim_base.specs.{Limits.HasFewIds, declared.command.Command.Command, declared.setup.Setup.Setup}
+use Rattle.sim_base.specs.{declared.{command.Command.Command, setup.Setup.Setup}, Limits.HasFewIds}
 use Rattle.sim_client.specs.Lives.{Joining, Life, may_order, may_play, may_tell_done, Off, On, ordered, orders, played, plays, report_of, says_of, told}
-use Rattle.std.proofs.Common.{[], All, Bool, false, if◌then◌else◌, None, Some, suc, true, ◌∷◌}
-use Rattle.std.proofs.lemmas.List.Elements.{All-cons, All-nil}
-use Rattle.{sim_client.specs.Lives.told_alone, sim_client.specs.Lives.told_with_done, sim_plain_session.specs.Players.Player, sim_wire.specs.Reading.IsSmallUp}
+use Rattle.{sim_client.specs.Lives.{told_alone, told_with_done}, sim_plain_session.specs.Players.Player, sim_wire.specs.Reading.IsSmallUp}
+use Rattle.std.proofs.{Common.{All, Bool, false, if◌then◌else◌, None, Some, suc, true, [], ◌∷◌}, lemmas.List.Elements.{All-cons, All-nil}}
 
 pub orders_small : (setup : Setup) (command : Command) (l : Life) → HasFewIds command → All IsSmallUp (says_of (orders setup command l))
 orders_small setup command Off few = All-nil IsSmallUp

@@ -1,14 +1,12 @@
 -- What a client is to its callers. A clause passes ⟦<dyn System as System>⟧ for `sys`.
 use Rattle.sim_client.specs.declared.did.Did.TheVariants as did
 use Rattle.sim_plain.specs.declared.message.DownOf.TheVariants as down
-use Rattle.sim_base.specs.{Spelling.digest, Spelling.mark, declared.memory.OutOfMemory.OutOfMemory, declared.setup.Setup.Setup, declared.state.State.State}
-use Rattle.sim_client.specs.Lives.{Life, Off, On, Told, hears, may_play, plays}
-use Rattle.sim_client.specs.StageWords.{IsPlayingBy, IsSoundAt, life_at, player_at, systems_on}
-use Rattle.sim_client.specs.declared.{client.Client.Client, did.Did.Did, did.Played.Played, stage.Seat.Seat}
-use Rattle.sim_system.specs.{Meanings.AreBuiltOnceAtMost, Meanings.HaveKinds, Meanings.Meaning, Meanings.Systems, RigWords.systems_by}
-use Rattle.std.specs.Prelude.{IsOk, List, None, Ok, OnOk, Option, Result, Some, false, true, ℕ, ◌≡◌}
-use Rattle.{sim_board.specs.Boards.AreKept, sim_board.specs.declared.board.Board.Board, sim_client.specs.Lives.Act, sim_client.specs.Lives.Joining}
-use Rattle.{sim_codec.specs.Loading.StandsFor, sim_system.specs.declared.system.System.Ghosts, std.specs.Prelude.Bool, std.specs.Prelude.Err}
+use Rattle.sim_base.specs.{declared.{memory.OutOfMemory.OutOfMemory, setup.Setup.Setup, state.State.State}, Spelling.{digest, mark}}
+use Rattle.sim_board.specs.{Boards.AreKept, declared.board.Board.Board}
+use Rattle.sim_client.specs.{declared.{client.Client.Client, did.{Did.Did, Played.Played}, stage.Seat.Seat}, Lives.{Act, hears, Joining, Life, may_play, Off}}
+use Rattle.{sim_client.specs.{Lives.{On, plays, Told}, StageWords.{IsPlayingBy, IsSoundAt, life_at, player_at, systems_on}}, sim_codec.specs.Loading.StandsFor}
+use Rattle.sim_system.specs.{declared.system.System.Ghosts, Meanings.{AreBuiltOnceAtMost, HaveKinds, Meaning, Systems}, RigWords.systems_by}
+use Rattle.std.specs.Prelude.{Bool, Err, false, IsOk, List, None, Ok, OnOk, Option, Result, Some, true, ℕ, ◌≡◌}
 
 -- the match that it takes part in
 abbrev pub setup_in : {Y X : Type 0} {G : Y → Type 0} {F : X → Type 0} {M : _} → Client Y X G F M → Setup

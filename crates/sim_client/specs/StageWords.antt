@@ -1,12 +1,11 @@
 -- What a client keeps beside its board, and what it is with that board. Members of systems are passed as in the words of boards.
 use Rattle.sim_client.specs.declared.stage.Stage.TheVariants as stage
-use Rattle.sim_base.specs.declared.{command.PlayerCommand.PlayerCommand, setup.Setup.Setup, state.State.State}
-use Rattle.sim_client.specs.{Lives.Joining, Lives.Life, Lives.Off, Lives.On, declared.known.Known.Known, declared.stage.Seat.Seat, declared.stage.Stage.Stage}
-use Rattle.sim_system.specs.{Meanings.AreFed, Meanings.HaveKinds, Meanings.Meaning, Meanings.Systems, Meanings.four, RigWords.systems_by}
-use Rattle.std.specs.{BTreeMap.get, Ordering.nat_cmp, Prelude.All, Prelude.List, Prelude.None, Prelude.Option, Prelude.Some, Prelude.[], Prelude.unwrap_or}
-use Rattle.{sim_base.specs.Limits.IsFrom, sim_base.specs.Limits.IsSetup, sim_base.specs.Limits.IsValid, sim_board.specs.Boards.IsWholeBy}
-use Rattle.{sim_board.specs.declared.board.Board.Board, sim_laws.specs.TurnLaws.IsOrderOf, sim_plain_session.specs.Players.Player}
-use Rattle.{sim_system.specs.declared.kind.Kind.TheVariants.Ground, sim_system.specs.declared.system.System.Ghosts, std.specs.Prelude.ℕ, std.specs.Prelude.◌≡◌}
+use Rattle.sim_base.specs.{declared.{command.PlayerCommand.PlayerCommand, setup.Setup.Setup, state.State.State}, Limits.{IsFrom, IsSetup, IsValid}}
+use Rattle.sim_board.specs.{Boards.IsWholeBy, declared.board.Board.Board}
+use Rattle.{sim_client.specs.{declared.{known.Known.Known, stage.{Seat.Seat, Stage.Stage}}, Lives.{Joining, Life, Off, On}}, sim_laws.specs.TurnLaws.IsOrderOf}
+use Rattle.{sim_plain_session.specs.Players.Player, sim_system.specs.declared.{kind.Kind.TheVariants.Ground, system.System.Ghosts}}
+use Rattle.sim_system.specs.{Meanings.{AreFed, four, HaveKinds, Meaning, Systems}, RigWords.systems_by}
+use Rattle.std.specs.{BTreeMap.get, Ordering.nat_cmp, Prelude.{All, List, None, Option, Some, unwrap_or, ℕ, [], ◌≡◌}}
 
 -- What is known of a turn.
 

@@ -1,9 +1,8 @@
 //! The health of an entity is bent, on the board of one client alone.
 
-ghost use Rattle.std.specs.{List.Sorted.IsStrictlyIncreasing, Prelude.map, Prelude.◌≡◌};
-ghost use Rattle.sim_base.specs.{Limits.IsValid, Rows.id_of, Rows.row_of, Turn.bent, Turn.is_health_of, Turn.may_bend as may_bend_by};
-ghost use Rattle.sim_board.specs.Boards.{AreKept, IsWhole, setup_in, state_in, systems};
-ghost use Rattle.sim_plans.specs.RowChanges.{most_of as most_by};
+ghost use Rattle.sim_base.specs.{Limits.IsValid, Rows.{id_of, row_of}, Turn.{bent, is_health_of, may_bend as may_bend_by}};
+ghost use Rattle.{sim_board.specs.Boards.{AreKept, IsWhole, setup_in, state_in, systems}, sim_plans.specs.RowChanges.most_of as most_by};
+ghost use Rattle.std.specs.{List.Sorted.IsStrictlyIncreasing, Prelude.{map, ◌≡◌}};
 
 use sim_base::{Change, Fixed, Row, Setup, State};
 use sim_board::Board;

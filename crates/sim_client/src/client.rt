@@ -3,12 +3,11 @@
 //! Its systems are always on a board. A client that is not on has one that is not whole, and its systems are cleared. The
 //! board is taken out only to be made anew, as the client is cut off.
 
-ghost use Rattle.sim_base.specs.Limits.{HasFewIds, IsFrom, IsSetup};
-ghost use Rattle.sim_client.specs.ClientWords.{Begins, did_in, digest_of, HasDigest, is_joining, IsSound, Keeps, life, mark_of, number_in, setup_in, state_of};
-ghost use Rattle.sim_client.specs.{ClientWords.Steps, ClientWords.systems, ClientWords.Tells, ClientWords.turn_of, Lives.bends, Lives.joins, Lives.Off};
-ghost use Rattle.sim_client.specs.{Lives.orders as orders_by, Lives.plays, Lives.starts, StageWords.AreCleared, StageWords.AreOf};
-ghost use Rattle.sim_system.specs.{Meanings.all_cleared, Meanings.HaveKinds, RigWords.systems_of};
-ghost use Rattle.std.specs.Prelude.{◌≡◌, IfOk, min, option_copied};
+ghost use Rattle.{sim_base.specs.Limits.{HasFewIds, IsFrom, IsSetup}, sim_client.specs.ClientWords.{Begins, did_in, digest_of, HasDigest, is_joining, IsSound}};
+ghost use Rattle.sim_client.specs.ClientWords.{Keeps, life, mark_of, number_in, setup_in, state_of, Steps, systems, Tells, turn_of};
+ghost use Rattle.sim_client.specs.{Lives.{bends, joins, Off, orders as orders_by, plays, starts}, StageWords.{AreCleared, AreOf}};
+ghost use Rattle.sim_system.specs.{Meanings.{all_cleared, HaveKinds}, RigWords.systems_of};
+ghost use Rattle.std.specs.Prelude.{IfOk, min, option_copied, ◌≡◌};
 
 mod hearing;
 
@@ -17,13 +16,12 @@ use crate::did::{Did, Played, one};
 use crate::digests::Digests;
 use crate::playing::{begin, order, play, play_beside};
 use crate::stage::Stage;
-use sim_base::{Command, Fixed, OutOfMemory, Setup, State};
+use sim_base::{Command, Fixed, Global, OutOfMemory, Setup, State};
 use sim_board::Board;
 use sim_codec::{digest, mark};
 use sim_orders::OrderTable;
 use sim_system::{Rig, System};
 use sim_wire::Up;
-use std::alloc::Global;
 
 /// A client. After want of memory it may only be finished.
 #[derive(Drop)]

@@ -3,9 +3,8 @@
 ghost use Rattle.std.specs.Prelude.{◌≡◌, [], ◌∷◌, IfOk};
 ghost use Rattle.sim_client.specs.declared.did.Did.TheVariants as did;
 
-use sim_base::{Items, OutOfMemory};
+use sim_base::{Global, Items, OutOfMemory};
 use sim_wire::Up;
-use std::alloc::Global;
 
 /// What a client says at once, in order.
 pub type Ups = Items<Up>;

@@ -5,10 +5,9 @@ ghost use Rattle.std.specs.Prelude.{◌≡◌, ◌^◌, ◌<◌, ◌↔◌, leng
 ghost use Rattle.sim_base.specs.{Spelling.is_full_turn as is_full, declared.setup.Setup.Setup as AnySetup};
 ghost use Rattle.{sim_client.specs.Kept.AreDigests, sim_bytes.specs.Rows.HasShortWay};
 
-use sim_base::{Items, Motion, OutOfMemory, Point, Points, Row, Rows, Setup, State};
+use sim_base::{Global, Items, Motion, OutOfMemory, Point, Points, Row, Rows, Setup, State};
 use sim_codec::{digest, is_full_turn, quick};
 use sim_diff::is_same;
-use std::alloc::Global;
 
 /// How many states are kept.
 pub const MOST_KEPT: usize = 4;

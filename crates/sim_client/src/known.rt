@@ -3,8 +3,7 @@
 ghost use Rattle.std.specs.Prelude.{[], OnOk, ◌++◌, ◌∷◌, ◌≡◌};
 ghost use Rattle.{sim_client.specs.StageWords.known_in, sim_plain.specs.Server.put};
 
-use sim_base::{Items, OutOfMemory, PlayerCommand};
-use std::alloc::Global;
+use sim_base::{Global, Items, OutOfMemory, PlayerCommand};
 use std::collections::BTreeMap;
 
 /// The commands of a turn, in the order in which they were heard.

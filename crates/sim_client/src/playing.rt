@@ -1,26 +1,23 @@
 //! What a client that is on does with its board, and what it keeps beside.
 
-ghost use Rattle.sim_plain.specs.declared.message.UpOf.TheVariants as up;
-ghost use Rattle.std.specs.Prelude.{[], false, IfOk, IsOk, min, nat_lt, None, OnOk, Option, ◌&&◌, ◌+◌, ◌<◌, ◌^◌, ◌∷◌, ◌≡◌};
-ghost use Rattle.sim_base.specs.{Limits.IsSetup, Limits.IsValid, Spelling.mark as mark_in, Spelling.spelling, declared.state.State.State as AnyState};
-ghost use Rattle.sim_board.specs.Boards.{AreKept, state_in, systems};
-ghost use Rattle.sim_client.specs.ClientWords.{Answers, did_in, HasDigest, NeedsNoMemory, Plays};
+ghost use Rattle.sim_base.specs.{declared.state.State.State as AnyState, Limits.{IsSetup, IsValid}, Spelling.{mark as mark_in, spelling}};
+ghost use Rattle.{sim_board.specs.Boards.{AreKept, state_in, systems}, sim_client.specs.ClientWords.{Answers, did_in, HasDigest, NeedsNoMemory, Plays}};
 ghost use Rattle.sim_client.specs.Lives.{hears, may_play as may_play_by, On, orders as orders_by, played, told};
-ghost use Rattle.sim_client.specs.StageWords.{AreByPlayers, IsPlaying, known_in, player_at};
-ghost use Rattle.sim_plain_session.specs.Pasts.{is_client as is_client_by};
+ghost use Rattle.{sim_client.specs.StageWords.{AreByPlayers, IsPlaying, known_in, player_at}, sim_plain_session.specs.Pasts.is_client as is_client_by};
+ghost use Rattle.std.specs.Prelude.{false, IfOk, IsOk, min, nat_lt, None, OnOk, Option, [], ◌&&◌, ◌+◌, ◌<◌, ◌^◌, ◌∷◌, ◌≡◌};
+ghost use Rattle.sim_plain.specs.declared.message.UpOf.TheVariants as up;
 
 use crate::did::{Did, Played, Ups, one, silent};
 use crate::digests::Digests;
 use crate::known::Known;
 use crate::stage::Seat;
-use sim_base::{Command, Items, OutOfMemory, Setup, State};
+use sim_base::{Command, Global, Items, OutOfMemory, Setup, State};
 use sim_board::Board;
 use sim_codec::{mark, spell};
 use sim_orders::OrderTable;
 use sim_system::System;
 use sim_turn::turn;
 use sim_wire::{Down, Up};
-use std::alloc::Global;
 
 /// The seat of a client that knows of no command and has given none.
 pub fn begin(alloc: Global, released: u32, done: u32) -> Seat

@@ -1,6 +1,5 @@
 -- What is said of an entity other than the first, by its row.
-use Rattle.sim_base.specs.Rows.{row_of}
-use Rattle.sim_codec.proofs.Common.{◌≡◌, ℕ, List, Some, None, Option, bits, ne_eqb, Part, Row, row_bits, State}
+use Rattle.{sim_base.specs.Rows.row_of, sim_codec.proofs.Common.{bits, List, ne_eqb, None, Option, Part, Row, row_bits, Some, State, ℕ, ◌≡◌}}
 
 pub bits_there : (state : State) (entity : ℕ) (part : Part) (x : Row) (answer : Option (List ℕ)) → (entity ≡ 1 → ⊥) → row_of state entity ≡ Some x
     → answer ≡ row_bits part x → answer ≡ bits state entity part

@@ -1,13 +1,12 @@
 -- Rows that are taken one after the other from where they stand.
 pub use Rattle.sim_codec.specs.TakenLaws.{bind_some, inject, is_some-if}
-use Rattle.sim_codec.proofs.Common.{Point, position_at, Reader, refl, Row, row_at, row_if, row_of, rows_at, rows_in, section_at, sections_at, Setup, slice_get}
-use Rattle.sim_codec.proofs.Common.{Some, stance_at, stances_at, State, state_at, subst, suc, sum_by-cons, sym, take, Template, template_in, true, unwrap_or}
-use Rattle.sim_codec.proofs.Common.{Version, w16, w32, w64, Walk, Width, zero, ℕ, ℤ, ◌&&◌, ◌*◌, ◌+◌, ◌-◌, ◌<◌, ◌>>=◌, ◌∙◌, ◌∷◌, ◌≡◌, ◌≤◌}
-use Rattle.sim_codec.proofs.Common.{[], Aim, All-from_recursion, AllByRecursion, ap, arith, attack_at, Bool, byte_len, cond, cons_option, count_by, drop}
-use Rattle.sim_codec.proofs.Common.{drop-drop, drop-take, entity_at, false, filter_map, first_chunks, from_le_bytes, has_health, has_stances, HasParts}
-use Rattle.sim_codec.proofs.Common.{health_at, holds, HoldsNone, id_in, id_of, is_holding, is_some, is_some-map, IsLike, length, length-drop, List, list_any}
-use Rattle.sim_codec.proofs.Common.{lives_as, ltb, ltb-false, map, moving_at, None, number_at, One, Option, option_map, owner_at, Parts, parts_at, passes}
-use Rattle.sim_codec.specs.Taken.{next_in, parts_in}
+use Rattle.sim_codec.proofs.Common.{Aim, All-from_recursion, AllByRecursion, ap, arith, attack_at, Bool, byte_len, cond, cons_option, count_by, drop, drop-drop}
+use Rattle.sim_codec.proofs.Common.{drop-take, entity_at, false, filter_map, first_chunks, from_le_bytes, has_health, has_stances, HasParts, health_at, holds}
+use Rattle.sim_codec.proofs.Common.{HoldsNone, id_in, id_of, is_holding, is_some, is_some-map, IsLike, length, length-drop, List, list_any, lives_as, ltb}
+use Rattle.sim_codec.proofs.Common.{ltb-false, map, moving_at, None, number_at, One, Option, option_map, owner_at, Parts, parts_at, passes, Point, position_at}
+use Rattle.sim_codec.proofs.Common.{Reader, refl, Row, row_at, row_if, row_of, rows_at, rows_in, section_at, sections_at, Setup, slice_get, Some, stance_at}
+use Rattle.sim_codec.proofs.Common.{stances_at, State, state_at, subst, suc, sum_by-cons, sym, take, Template, template_in, true, unwrap_or, Version, w16, w32}
+use Rattle.sim_codec.{proofs.Common.{w64, Walk, Width, zero, ℕ, ℤ, [], ◌&&◌, ◌*◌, ◌+◌, ◌-◌, ◌<◌, ◌>>=◌, ◌∙◌, ◌∷◌, ◌≡◌, ◌≤◌}, specs.Taken.{next_in, parts_in}}
 
 -- a row in front of others that are read
 abbrev before : Row → Option (List Row × Walk) → Option (List Row × Walk)

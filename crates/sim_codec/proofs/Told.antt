@@ -1,6 +1,5 @@
 -- Pieces that are told one behind the other.
-use Rattle.sim_codec.proofs.Common.{ℕ, List, ◌++◌, OnOk, codes, Result, ap, append_assoc, subst, Tells}
-use Rattle.sim_bytes.proofs.Ways.{first}
+use Rattle.{sim_bytes.proofs.Ways.first, sim_codec.proofs.Common.{ap, append_assoc, codes, List, OnOk, Result, subst, Tells, ℕ, ◌++◌}}
 
 -- the magic, the version and the id, before the clock and what a last call tells
 pub headed : {K E : Type 0} (holds : K → List ℕ → List ℕ → Type 0) (a b c d : K) (version id clock rest : List ℕ) (r : Result (Unit {0}) E)

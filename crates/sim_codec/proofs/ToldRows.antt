@@ -1,7 +1,6 @@
 -- Rows that are told or counted one after the other.
-use Rattle.sim_codec.proofs.Common.{append-nil, append_assoc, arith, cons_option, subst, sym, Tells, ◌∙◌}
-use Rattle.sim_codec.proofs.Common.{◌≡◌, ℕ, ◌+◌, ◌≤◌, true, false, List, [], ◌∷◌, ◌++◌, length, is_some, Some, None, flat_map, filter_map, Option, refl, ap}
-use Rattle.sim_base.proofs.Lists.{length-cons_option}
+use Rattle.{sim_base.proofs.Lists.length-cons_option, sim_codec.proofs.Common.{ap, append-nil, append_assoc, arith, cons_option, false, filter_map, flat_map}}
+use Rattle.sim_codec.proofs.Common.{is_some, length, List, None, Option, refl, Some, subst, sym, Tells, true, ℕ, [], ◌++◌, ◌+◌, ◌∙◌, ◌∷◌, ◌≡◌, ◌≤◌}
 
 length-cons : {Y : Type 0} (o : Option Y) (ys : List Y) (n : ℕ) → length ys ≤ n → length (cons_option o ys) ≤ n + 1
 length-cons None ys n h = omega arith

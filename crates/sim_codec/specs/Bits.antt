@@ -1,9 +1,8 @@
 -- The bytes of one entity in one section.
-use Rattle.{sim_base.specs.Rows.row_of, sim_codec.specs.declared.bits.Part.Part}
-use Rattle.std.specs.Prelude.{ℕ, List, if◌then◌else◌, ◌==◌, Some, None, Option, option_map, option_and_then}
-use Rattle.sim_codec.specs.Common.{attack_bytes, attack_part, clock_bytes, entity_bytes, entity_part, health_bytes, health_part, motion_part, moving_bytes}
-use Rattle.sim_codec.specs.Common.{owner_bytes, owner_part, position_bytes, position_part, Row, stance_bytes, stance_part, State, with_id}
-use Rattle.sim_codec.specs.declared.bits.Part.TheVariants.{Attack, Clock, Entity, Health, Motion, Owner, Position, Stance}
+use Rattle.{sim_base.specs.Rows.row_of, sim_codec.specs.Common.{attack_bytes, attack_part, clock_bytes, entity_bytes, entity_part, health_bytes, health_part}}
+use Rattle.sim_codec.specs.Common.{motion_part, moving_bytes, owner_bytes, owner_part, position_bytes, position_part, Row, stance_bytes, stance_part, State}
+use Rattle.sim_codec.specs.{Common.with_id, declared.bits.Part.{Part, TheVariants.{Attack, Clock, Entity, Health, Motion, Owner, Position, Stance}}}
+use Rattle.std.specs.Prelude.{if◌then◌else◌, List, None, Option, option_and_then, option_map, Some, ℕ, ◌==◌}
 
 -- the clock, and no other part
 abbrev pub clock_bits : State → Part → Option (List ℕ)

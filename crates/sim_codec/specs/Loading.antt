@@ -1,10 +1,9 @@
 -- What bytes stand for, and what they are refused for.
 use Rattle.sim_codec.specs.declared.fault.StateFault.TheVariants as faults
 use Rattle.sim_codec.specs.Common.{clock_bytes, head_bytes, is_holding, IsValid, number_of, old_spelling, One, Row, rows_with, section, Setup, six_sections}
-use Rattle.sim_codec.specs.Common.{spelling, stance_bytes, stance_part, State, Two, u32_bytes, Version}
-use Rattle.sim_codec.specs.declared.fault.StateFault.{StateFault}
-use Rattle.std.specs.Prelude.{[], All, codes, drop, Err, false, IfErr, IfOk, IfSome, if◌then◌else◌, is_some, length, List, nat_lt, None, not, Ok, Option}
-use Rattle.std.specs.{Prelude.Result, Prelude.Some, Prelude.take, Prelude.ℕ, Prelude.◌++◌, Prelude.◌≡◌, Prelude.◌≢◌, Prelude.◌⊎◌, Str.bytes_eq}
+use Rattle.sim_codec.specs.{Common.{spelling, stance_bytes, stance_part, State, Two, u32_bytes, Version}, declared.fault.StateFault.StateFault}
+use Rattle.std.specs.Prelude.{All, codes, drop, Err, false, IfErr, IfOk, IfSome, if◌then◌else◌, is_some, length, List, nat_lt, None, not, Ok, Option, Result}
+use Rattle.std.specs.{Prelude.{Some, take, ℕ, [], ◌++◌, ◌≡◌, ◌≢◌, ◌⊎◌}, Str.bytes_eq}
 
 -- The bytes of a state by each version of the layout.
 

@@ -1,6 +1,5 @@
 -- A row that is like its template stands in the sections of the parts that the template has, and in no other.
-use Rattle.sim_codec.specs.Common.{attack_part, from_le_bytes, health_part, motion_part, Row, stance_part, Template, w16, w32, with_id}
-use Rattle.sim_codec.specs.Reading.{IsLike}
+use Rattle.sim_codec.specs.{Common.{attack_part, from_le_bytes, health_part, motion_part, Row, stance_part, Template, w16, w32, with_id}, Reading.IsLike}
 use Rattle.std.proofs.Common.{None, Option, refl, Some, ◌∙◌, ◌≡◌}
 use Rattle.std.specs.Prelude.{Bool, drop, false, is_some, List, option_map, slice_get, take, unwrap_or, ℕ, ◌&&◌, ◌==◌}
 

@@ -1,9 +1,8 @@
 //! The rows of the first section, each of six bytes: the id of an entity and the number of its template. What these two
 //! say of all entities is read off them, so that no row is taken from any section for it.
 
+ghost use Rattle.sim_codec.specs.{Common.{first_chunks, IsStrictlyIncreasing, list_any}, PartLaws.{id_in, lives_as, passes, template_in}};
 ghost use Rattle.std.specs.Prelude.{count_by, IsTrue, length, map, ◌*◌, ◌↔◌, ◌≡◌, ◌≤◌};
-ghost use Rattle.sim_codec.specs.Common.{first_chunks, IsStrictlyIncreasing, list_any};
-ghost use Rattle.sim_codec.specs.PartLaws.{id_in, lives_as, passes, template_in};
 
 use crate::part::PartForm;
 use sim_base::Template;

@@ -10,9 +10,8 @@ use crate::good::is_valid_stored;
 use crate::reading::state_of;
 use crate::same::is_spelled;
 use crate::stored::{Stored, stored_from};
-use sim_base::{Setup, State};
+use sim_base::{Global, Setup, State};
 use sim_bytes::Version;
-use std::alloc::Global;
 
 // The magic "RSIM" and the number of the version.
 #[tactic(auto, unfolding(sim_base::specs::Spelling::u32_bytes))]

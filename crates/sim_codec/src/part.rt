@@ -2,9 +2,8 @@
 //! of the others only the first is needed, which says the id and the template. The row gets the id that stands there, so
 //! that rows that do not belong together are not spelled as they stand.
 
+ghost use Rattle.{sim_bytes.specs.Reading.{Reader, Reads}, sim_codec.specs.{Common.{Parts, parts_at, Row, row_of, Template, Version, Walk}, Reading.IsLike}};
 ghost use Rattle.std.specs.Prelude.{Bool, is_some, List, Option, slice_get, Some, ℕ, ◌≡◌};
-ghost use Rattle.sim_bytes.specs.Reading.{Reader, Reads};
-ghost use Rattle.sim_codec.specs.{Common.Parts, Common.Row, Common.Template, Common.Version, Common.Walk, Common.parts_at, Common.row_of, Reading.IsLike};
 
 use sim_base::Template;
 use sim_bytes::{
@@ -50,8 +49,7 @@ pub trait PartForm<'a>: RowForm<'a> {
 }
 
 impl<'a> PartForm<'a> for EntityRow {
-    ghost use Rattle.{sim_codec.specs.TakenLaws.entity_taken, std.proofs.Common.refl, std.specs.Prelude.true};
-    ghost use Rattle.sim_codec.specs.Taken.{entity_part_at};
+    ghost use Rattle.{sim_codec.specs.{Taken.entity_part_at, TakenLaws.entity_taken}, std.{proofs.Common.refl, specs.Prelude.true}};
 
     ghost of_template = { λ template. true };
 
@@ -88,8 +86,7 @@ impl<'a> PartForm<'a> for EntityRow {
 }
 
 impl<'a> PartForm<'a> for PositionRow {
-    ghost use Rattle.{sim_codec.specs.TakenLaws.position_taken, std.proofs.Common.refl, std.specs.Prelude.true};
-    ghost use Rattle.sim_codec.specs.Taken.{position_part_at};
+    ghost use Rattle.{sim_codec.specs.{Taken.position_part_at, TakenLaws.position_taken}, std.{proofs.Common.refl, specs.Prelude.true}};
 
     ghost of_template = { λ template. true };
 
@@ -126,8 +123,7 @@ impl<'a> PartForm<'a> for PositionRow {
 }
 
 impl<'a> PartForm<'a> for OwnerRow {
-    ghost use Rattle.{sim_codec.specs.TakenLaws.owner_taken, std.proofs.Common.refl, std.specs.Prelude.true};
-    ghost use Rattle.sim_codec.specs.Taken.{owner_part_at};
+    ghost use Rattle.{sim_codec.specs.{Taken.owner_part_at, TakenLaws.owner_taken}, std.{proofs.Common.refl, specs.Prelude.true}};
 
     ghost of_template = { λ template. true };
 
@@ -164,8 +160,7 @@ impl<'a> PartForm<'a> for OwnerRow {
 }
 
 impl<'a> PartForm<'a> for HealthRow {
-    ghost use Rattle.{sim_codec.specs.PartLaws.health_like, sim_codec.specs.TakenLaws.health_taken, std.specs.Prelude.is_some};
-    ghost use Rattle.sim_codec.specs.Taken.{health_part_at};
+    ghost use Rattle.{sim_codec.specs.{PartLaws.health_like, Taken.health_part_at, TakenLaws.health_taken}, std.specs.Prelude.is_some};
 
     ghost of_template = { λ template. is_some template.health };
 
@@ -202,8 +197,7 @@ impl<'a> PartForm<'a> for HealthRow {
 }
 
 impl<'a> PartForm<'a> for MotionRow<'a> {
-    ghost use Rattle.{sim_codec.specs.PartLaws.motion_like, sim_codec.specs.TakenLaws.motion_taken, std.specs.Prelude.is_some};
-    ghost use Rattle.sim_codec.specs.Taken.{motion_part_at};
+    ghost use Rattle.{sim_codec.specs.{PartLaws.motion_like, Taken.motion_part_at, TakenLaws.motion_taken}, std.specs.Prelude.is_some};
 
     ghost of_template = { λ template. is_some template.speed };
 
@@ -242,8 +236,7 @@ impl<'a> PartForm<'a> for MotionRow<'a> {
 }
 
 impl<'a> PartForm<'a> for AttackRow {
-    ghost use Rattle.{sim_codec.specs.PartLaws.attack_like, sim_codec.specs.TakenLaws.attack_taken, std.specs.Prelude.is_some};
-    ghost use Rattle.sim_codec.specs.Taken.{attack_part_at};
+    ghost use Rattle.{sim_codec.specs.{PartLaws.attack_like, Taken.attack_part_at, TakenLaws.attack_taken}, std.specs.Prelude.is_some};
 
     ghost of_template = { λ template. is_some template.arms };
 
@@ -280,8 +273,7 @@ impl<'a> PartForm<'a> for AttackRow {
 }
 
 impl<'a> PartForm<'a> for StanceRow {
-    ghost use Rattle.{sim_codec.specs.PartLaws.stance_like, sim_codec.specs.TakenLaws.stance_taken, std.specs.Prelude.is_some};
-    ghost use Rattle.sim_codec.specs.Taken.{stance_part_at};
+    ghost use Rattle.{sim_codec.specs.{PartLaws.stance_like, Taken.stance_part_at, TakenLaws.stance_taken}, std.specs.Prelude.is_some};
 
     ghost of_template = { λ template. is_some template.arms };
 

@@ -1,9 +1,8 @@
 //! What a report of a state carries: the whole digest at some turns, and at the others a quick one, of the clock and the
 //! places alone.
 
-ghost use Rattle.std.specs.Prelude.{◌≡◌, ◌^◌, ◌<◌, length, OnOk, All};
-ghost use Rattle.sim_codec.specs.Told.{CanBeTold};
-ghost use Rattle.sim_codec.specs.Common.{HasShortWay, is_full_turn as is_full, mark as mark_of, quick as quick_of, quick_bytes, Tells};
+ghost use Rattle.sim_codec.specs.{Common.{HasShortWay, is_full_turn as is_full, mark as mark_of, quick as quick_of, quick_bytes, Tells}, Told.CanBeTold};
+ghost use Rattle.std.specs.Prelude.{All, length, OnOk, ◌<◌, ◌^◌, ◌≡◌};
 
 use crate::spelling::{digest, tell_clock};
 use sim_base::{Setup, State};

@@ -1,16 +1,14 @@
 //! The spelling of a state. It is told once, piece by piece, into a list, into a digest or into a comparison, so that
 //! the three cannot differ.
 
-ghost use Rattle.std.specs.Prelude.{◌≡◌, ◌^◌, ◌<◌, ◌++◌, length, IfOk, OnOk, codes, All};
-ghost use Rattle.sim_codec.specs.Told.{CanBeTold};
-ghost use Rattle.sim_codec.specs.Common.{digest as digest_of, HasShortWay, number_of, sections, spelling, Tells, u32_bytes, u64_bytes};
+ghost use Rattle.sim_codec.specs.{Common.{digest as digest_of, HasShortWay, number_of, sections, spelling, Tells, u32_bytes, u64_bytes}, Told.CanBeTold};
+ghost use Rattle.std.specs.Prelude.{All, codes, IfOk, length, OnOk, ◌++◌, ◌<◌, ◌^◌, ◌≡◌};
 
-use sim_base::{OutOfMemory, Row, Setup, State};
+use sim_base::{Global, OutOfMemory, Row, Setup, State};
 use sim_bytes::{
     AttackRow, ByteSink, Digesting, EntityRow, HealthRow, MotionRow, OwnerRow, PositionRow,
     StanceRow, Version, tell_section, tell_u32, tell_u64,
 };
-use std::alloc::Global;
 
 /// Tells the magic, the version and the id of the match.
 pub fn tell_head<K: ByteSink>(out: &mut K, version: Version, setup: &Setup) -> Result<(), K::Fault>

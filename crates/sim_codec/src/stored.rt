@@ -1,11 +1,9 @@
 //! A state that still stands in its bytes. Its rows are taken one after the other as often as they are wanted, and no
 //! memory with them.
 
-ghost use Rattle.std.specs.List.{filter_map, flat_map};
-ghost use Rattle.std.specs.Prelude.{[], is_some, IsTrue, length, map, MatchOption, MatchResult, None, OnOk, option_map, Some, ◌↔◌, ◌∷◌, ◌≡◌, ◌≤◌};
-ghost use Rattle.sim_bytes.specs.Reading.{Reads};
-ghost use Rattle.sim_codec.specs.{Common.IsStrictlyIncreasing, Common.Tells, Common.has_health, Common.id_of as id_of_row, Common.row_of, Reading.rows_at};
-ghost use Rattle.sim_codec.specs.{Reading.rows_in, Reading.state_at, Taken.next_in, Taken.parts_in};
+ghost use Rattle.{sim_bytes.specs.Reading.Reads, sim_codec.specs.Common.{has_health, id_of as id_of_row, IsStrictlyIncreasing, row_of, Tells}};
+ghost use Rattle.{sim_codec.specs.{Reading.{rows_at, rows_in, state_at}, Taken.{next_in, parts_in}}, std.specs.List.{filter_map, flat_map}};
+ghost use Rattle.std.specs.Prelude.{is_some, IsTrue, length, map, MatchOption, MatchResult, None, OnOk, option_map, Some, [], ◌↔◌, ◌∷◌, ◌≡◌, ◌≤◌};
 
 use crate::entities::{are_ascending, count, entities_in, id_of, is_living, template_of};
 use crate::part::PartForm;

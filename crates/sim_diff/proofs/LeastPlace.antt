@@ -1,12 +1,11 @@
 -- What the definition answers is the least place over every entity and part, and there is one least place at most.
+use Rattle.sim_diff.proofs.Common.{ap, arith, Attack, bits, Bool, bytes_eq, bytes_eq-Decides, cases_eq, cases_order, Clock, cond, Decides, difference_in}
+use Rattle.sim_diff.proofs.Common.{difference_of, entities, Entity, eq-eqb, eqb-true, false, filter, find, get_or, Has, Has-append_left, Has-append_right}
 use Rattle.sim_diff.proofs.Common.{Has-flat_map, Has-map, Has-of_flat_map, Has-of_map, HaveSameBits, Health, id_of, inl, inr, is_before, is_different, IsBefore}
 use Rattle.sim_diff.proofs.Common.{IsLeastDifference, key_of, le-ltb, least_of-has, least_of-some, List, lt-ltb, map, Motion, ne_eqb, None, none-some}
-use Rattle.sim_diff.proofs.Common.{[], ap, arith, Attack, bits, Bool, bytes_eq, bytes_eq-Decides, cases_eq, cases_order, Clock, cond, Decides, difference_in}
-use Rattle.sim_diff.proofs.Common.{difference_of, entities, Entity, eq-eqb, eqb-true, false, filter, find, get_or, Has, Has-append_left, Has-append_right}
 use Rattle.sim_diff.proofs.Common.{not-false, not-true, number_of, Option, option_and_then, option_eq, Owner, Part, parts, Place, place_at, places, Position}
-use Rattle.sim_diff.proofs.Common.{refl, Row, row_bits, row_of, same_Some, Some, Stance, State, subst, sym, true, true≢false, ℕ, ⊎_elim, ◌+◌, ◌<◌, ◌==◌, ◌∙◌}
-use Rattle.sim_diff.proofs.Common.{◌∷◌, ◌≡◌, ◌≢◌, ◌≤◌, ◌⊎◌}
-use Rattle.sim_laws.proofs.Validity.{Has-filter, Has-of_filter}
+use Rattle.sim_diff.proofs.Common.{refl, Row, row_bits, row_of, same_Some, Some, Stance, State, subst, sym, true, true≢false, ℕ, ⊎_elim, [], ◌+◌, ◌<◌, ◌==◌}
+use Rattle.{sim_diff.proofs.Common.{◌∙◌, ◌∷◌, ◌≡◌, ◌≢◌, ◌≤◌, ◌⊎◌}, sim_laws.proofs.Validity.{Has-filter, Has-of_filter}}
 
 -- The first part of one entity that differs: all parts before it are the same, and where there is none, all are.
 

@@ -1,13 +1,12 @@
 -- Two states that have the same bytes of every part of every entity have one spelling: their rows have the same ids, and so each section the same rows.
-use Rattle.sim_diff.proofs.Common.{IsLeastDifference, IsSetup, IsStrictlyIncreasing, IsValid, length, length-map, List, map, min, Motion, motion_part}
-use Rattle.sim_diff.proofs.Common.{[], ap, AreRowsOf, arith, Attack, attack_bytes, attack_part, bits, Bool, cases_eq, cases_lt, cases_order, Clock, clock_bytes}
+use Rattle.sim_diff.proofs.Common.{ap, AreRowsOf, arith, Attack, attack_bytes, attack_part, bits, Bool, cases_eq, cases_lt, cases_order, Clock, clock_bytes}
 use Rattle.sim_diff.proofs.Common.{cond, cons_option, difference_of, Entity, entity_bytes, entity_part, eq-eqb, eqb-true, false, filter_map, find, flat_map}
 use Rattle.sim_diff.proofs.Common.{get_or, HaveSameBits, HaveSameFirst, Health, health_bytes, health_part, id_of, ids_rise, inl, inr, IsBefore}
+use Rattle.sim_diff.proofs.Common.{IsLeastDifference, IsSetup, IsStrictlyIncreasing, IsValid, length, length-map, List, map, min, Motion, motion_part}
 use Rattle.sim_diff.proofs.Common.{moving_bytes, ne_eqb, next_id, None, none-some, one_state, Option, option_and_then, option_map, Owner, owner_bytes}
 use Rattle.sim_diff.proofs.Common.{owner_part, Part, Place, Position, position_bytes, position_part, refl, Row, row_bits, row_of, rows_behind, rows_with}
 use Rattle.sim_diff.proofs.Common.{same_Some, section, sections, Setup, Some, spelling, Stance, stance_bytes, stance_part, State, suc, sym, true, u32_bytes}
-use Rattle.sim_diff.proofs.Common.{with_id, ℕ, ◌++◌, ◌+◌, ◌<◌, ◌==◌, ◌∙◌, ◌∷◌, ◌≡◌, ◌≤◌, ◌⊎◌}
-use Rattle.sim_diff.proofs.LeastPlace.{bits-row, IsFirst, same-difference_of}
+use Rattle.sim_diff.proofs.{Common.{with_id, ℕ, [], ◌++◌, ◌+◌, ◌<◌, ◌==◌, ◌∙◌, ◌∷◌, ◌≡◌, ◌≤◌, ◌⊎◌}, LeastPlace.{bits-row, IsFirst, same-difference_of}}
 
 -- Rows whose ids rise, and ids that no row has, by recursion on the rows.
 

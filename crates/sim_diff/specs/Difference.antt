@@ -1,9 +1,7 @@
 -- Where two states differ: the least entity and part of which they have not the same bytes.
-use Rattle.sim_codec.specs.declared.bits.Part.TheVariants.{Attack, Clock, Entity, Health, Motion, Owner, Position, Stance}
-use Rattle.std.specs.{Option.option_eq, Prelude.Bool, Prelude.List, Prelude.Option, Prelude.[], Prelude.filter, Prelude.find, Prelude.flat_map, Prelude.map}
-use Rattle.std.specs.{Prelude.◌++◌, Prelude.◌<◌, Prelude.◌∷◌, Prelude.◌≡◌, Prelude.◌≢◌, Prelude.◌⊎◌, Str.bytes_eq}
-use Rattle.{sim_base.specs.Rows.id_of, sim_base.specs.Ways.least_of, sim_base.specs.declared.state.State.State, sim_codec.specs.Bits.bits}
-use Rattle.{sim_codec.specs.declared.bits.Part.Part, sim_diff.specs.declared.place.Place.Place, std.specs.Prelude.not, std.specs.Prelude.ℕ}
+use Rattle.{sim_base.specs.{declared.state.State.State, Rows.id_of, Ways.least_of}, sim_codec.specs.{Bits.bits, declared.bits.Part.{Part, TheVariants.Attack}}}
+use Rattle.{sim_codec.specs.declared.bits.Part.TheVariants.{Clock, Entity, Health, Motion, Owner, Position, Stance}, sim_diff.specs.declared.place.Place.Place}
+use Rattle.std.specs.{Option.option_eq, Prelude.{Bool, filter, find, flat_map, List, map, not, Option, ℕ, [], ◌++◌, ◌<◌, ◌∷◌, ◌≡◌, ◌≢◌, ◌⊎◌}, Str.bytes_eq}
 
 -- the parts in their order
 abbrev pub parts : List Part

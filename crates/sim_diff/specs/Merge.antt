@@ -1,8 +1,7 @@
 -- A step of the walk over the rows of two states: what they need for it, the entity that comes next, the rows behind it, and
 -- whether both lists begin with one row.
-use Rattle.std.specs.Prelude.{◌≡◌, ℕ, min, List, [], ◌∷◌, All, if◌then◌else◌, map, ◌==◌, Some, None, find, Option}
-use Rattle.{sim_bytes.specs.Rows.HasShortWay, std.specs.List.Sorted.IsStrictlyIncreasing}
-use Rattle.sim_base.specs.{Rows.id_of, Rows.row_of, declared.state.Row.Row, declared.state.State.State}
+use Rattle.{sim_base.specs.{declared.state.{Row.Row, State.State}, Rows.{id_of, row_of}}, sim_bytes.specs.Rows.HasShortWay}
+use Rattle.std.specs.{List.Sorted.IsStrictlyIncreasing, Prelude.{All, find, if◌then◌else◌, List, map, min, None, Option, Some, ℕ, [], ◌==◌, ◌∷◌, ◌≡◌}}
 
 -- the ids of both states ascend, and no way in them is too long for its bytes to be told
 pub record AreComparable (left right : State) : Type 0 where

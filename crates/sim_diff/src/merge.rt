@@ -1,9 +1,8 @@
 //! The walk over the entities of two states: one pass over both lists of rows, which ascend by id.
 
-ghost use Rattle.{sim_base.specs.Rows.id_of, sim_bytes.specs.Rows.HasShortWay};
-ghost use Rattle.std.specs.{List.Sorted.IsStrictlyIncreasing, Prelude.◌≡◌, Prelude.◌↔◌, Prelude.map, Prelude.IfSome, Prelude.IsNone, Prelude.Some, Prelude.All};
-ghost use Rattle.sim_diff.specs.Difference.{difference_in, difference_of, HaveSameBits, IsLeastDifference};
-ghost use Rattle.sim_diff.specs.Merge.{AreComparable, AreRowsOf, next_id, rows_behind};
+ghost use Rattle.{sim_base.specs.Rows.id_of, sim_bytes.specs.Rows.HasShortWay, sim_diff.specs.Difference.{difference_in, difference_of, HaveSameBits}};
+ghost use Rattle.sim_diff.specs.{Difference.IsLeastDifference, Merge.{AreComparable, AreRowsOf, next_id, rows_behind}};
+ghost use Rattle.std.specs.{List.Sorted.IsStrictlyIncreasing, Prelude.{All, IfSome, IsNone, map, Some, ◌↔◌, ◌≡◌}};
 
 use crate::place::{Place, first_difference};
 use crate::same::have_same_first;

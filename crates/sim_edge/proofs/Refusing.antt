@@ -5,15 +5,14 @@ use Rattle.sim_top.specs.declared.status.Status.TheVariants as status
 use Rattle.sim_top.specs.declared.stop.Stop.TheVariants as stop
 use Rattle.sim_talk.specs.declared.fault.HearFault.TheVariants as hear
 use Rattle.sim_talk.specs.declared.fault.TalkFault.TheVariants as fault
-use Rattle.sim_edge.specs.Talked.{between, CameBetween, in_part, IsRefusal, LiveBy, LiveCauses, ReadsBy, Refused, silent, TalkCauses, TalkedAs, TalkedOver}
-use Rattle.sim_talk.specs.{Dialogues.Causes, Talks.Extends, Talks.History, Talks.Tells, declared.fault.TalkFault.TalkFault}
-use Rattle.sim_top.specs.{Outcome.Outcome, Reads.CountsBefore, Reads.IsSilent, Reads.OnlyGave, Stops.Stopped, Stops.ended_by, Stops.status_of, Stops.stop_text}
-use Rattle.std.proofs.Common.{[], ap, arith, Err, inl, inr, length, List, None, Ok, Option, refl, Result, Some, subst, sym, ℕ, ◌<◌, ◌∷◌, ◌≡◌, ◌≤◌, ◌⊎◌}
-use Rattle.{sim_base.specs.declared.setup.Setup.Setup, sim_edge.specs.Endings.ended_as, sim_edge.specs.Talked.whole}
-use Rattle.{sim_edge.specs.declared.ending.Ending.Ending, sim_live.proofs.Answered.live_caused, sim_live.proofs.Relayed.relay_caused}
-use Rattle.{sim_live.specs.declared.relaying.RelayRules.RelayRules, sim_store.specs.Shelf.Rose, sim_store.specs.declared.counts.Counts.Counts}
-use Rattle.{sim_store.specs.declared.fault.Failed.Failed, sim_talk.proofs.Talking.Extends-nothing, sim_talk.proofs.Talking.has_lost}
-use Rattle.{sim_top.specs.declared.status.Status.Status, sim_top.specs.declared.stop.Stop.Stop, std.specs.Prelude.IfSome, std.specs.Prelude.⊤}
+use Rattle.{sim_base.specs.declared.setup.Setup.Setup, sim_edge.specs.{declared.ending.Ending.Ending, Endings.ended_as, Talked.between}}
+use Rattle.sim_edge.specs.Talked.{CameBetween, in_part, IsRefusal, LiveBy, LiveCauses, ReadsBy, Refused, silent, TalkCauses, TalkedAs, TalkedOver, whole}
+use Rattle.sim_live.{proofs.{Answered.live_caused, Relayed.relay_caused}, specs.declared.relaying.RelayRules.RelayRules}
+use Rattle.{sim_store.specs.{declared.{counts.Counts.Counts, fault.Failed.Failed}, Shelf.Rose}, sim_talk.proofs.Talking.{Extends-nothing, has_lost}}
+use Rattle.{sim_talk.specs.{declared.fault.TalkFault.TalkFault, Dialogues.Causes, Talks.{Extends, History, Tells}}, sim_top.specs.declared.status.Status.Status}
+use Rattle.sim_top.specs.{declared.stop.Stop.Stop, Outcome.Outcome, Reads.{CountsBefore, IsSilent, OnlyGave}, Stops.{ended_by, status_of, stop_text, Stopped}}
+use Rattle.std.proofs.Common.{ap, arith, Err, inl, inr, length, List, None, Ok, Option, refl, Result, Some, subst, sym, ℕ, [], ◌<◌, ◌∷◌, ◌≡◌, ◌≤◌, ◌⊎◌}
+use Rattle.std.specs.Prelude.{IfSome, ⊤}
 
 -- what holds where something is known goes on
 pub where_known : {X : Type 0} {P Q : X → Type 0} (o : Option X) → ((x : X) → P x → Q x) → IfSome o P → IfSome o Q

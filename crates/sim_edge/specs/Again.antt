@@ -1,6 +1,5 @@
 -- Calls that are made again where a signal interrupts them.
-use Rattle.std.specs.{IoError.error_kind, Prelude.◌≡◌, Prelude.ℕ, Prelude.zero, Prelude.suc, Prelude.◌⊎◌, Prelude.List, Prelude.Ok, Prelude.Err, Prelude.Result}
-use Rattle.std.specs.declared.io.{Error.Error, ErrorKind.TheVariants.Interrupted}
+use Rattle.std.specs.{declared.io.{Error.Error, ErrorKind.TheVariants.Interrupted}, IoError.error_kind, Prelude.{Err, List, Ok, Result, suc, zero, ℕ, ◌≡◌, ◌⊎◌}}
 
 -- a signal came before the call had moved anything
 abbrev pub IsInterrupted : {T : Type 0} → Result T Error → Type 0

@@ -1,10 +1,9 @@
 -- What the edge answers and counts, by what the system answered.
 use Rattle.sim_store.specs.declared.fault.ShelfFault.TheVariants as fault
-use Rattle.sim_edge.specs.{Again.AnswersIn, Again.read_call, Again.write_call, declared.again.TheConstants.TRIES}
-use Rattle.sim_store.specs.declared.{counts.Counts.Counts, fault.Failed.Failed, fault.ShelfFault.ShelfFault}
-use Rattle.std.specs.Prelude.{Bool, Err, false, IsErr, IsOk, length, List, None, Ok, Option, Result, Some, true, ℕ, ⊤, ◌<◌, ◌≡◌, ◌≢◌}
-use Rattle.std.specs.declared.io.{Error.Error, ErrorKind.ErrorKind, ErrorKind.TheVariants.NotFound, ErrorKind.TheVariants.OutOfMemory}
-use Rattle.{sim_store.specs.Shelf.after_miss, sim_store.specs.Shelf.after_read_fault, sim_store.specs.Shelf.after_write_fault, std.specs.IoError.error_kind}
+use Rattle.sim_edge.specs.{Again.{AnswersIn, read_call, write_call}, declared.again.TheConstants.TRIES}
+use Rattle.sim_store.specs.{declared.{counts.Counts.Counts, fault.{Failed.Failed, ShelfFault.ShelfFault}}, Shelf.{after_miss, after_read_fault}}
+use Rattle.{sim_store.specs.Shelf.after_write_fault, std.specs.declared.io.{Error.Error, ErrorKind.{ErrorKind, TheVariants.{NotFound, OutOfMemory}}}}
+use Rattle.std.specs.{IoError.error_kind, Prelude.{Bool, Err, false, IsErr, IsOk, length, List, None, Ok, Option, Result, Some, true, ℕ, ⊤, ◌<◌, ◌≡◌, ◌≢◌}}
 
 -- ---- opening
 

@@ -1,9 +1,8 @@
 -- What a process is handed and what it ends with.
 use Rattle.sim_edge.specs.Endings as talk
-use Rattle.std.specs.declared.{io.ErrorKind.TheVariants.OutOfMemory, vec.IntoIter.IntoIter}
-use Rattle.std.specs.{IoError.error_kind, Prelude.Err, Prelude.List, Prelude.Ok, Prelude.Result, Prelude.String, Prelude.[], Prelude.drop, Prelude.ℕ}
-use Rattle.std.specs.{Prelude.◌≡◌, Prelude.◌≢◌, Vec.Iter.into_iter_items, declared.alloc.Global.Global, declared.io.Error.Error}
-use Rattle.{sim_edge.specs.declared.ending.Ending.Ending, sim_top.specs.Reads.status_number, sim_top.specs.declared.status.Status.Status}
+use Rattle.{sim_edge.specs.declared.ending.Ending.Ending, sim_top.specs.{declared.status.Status.Status, Reads.status_number}}
+use Rattle.std.specs.declared.{alloc.Global.Global, io.{Error.Error, ErrorKind.TheVariants.OutOfMemory}, vec.IntoIter.IntoIter}
+use Rattle.std.specs.{IoError.error_kind, Prelude.{drop, Err, List, Ok, Result, String, ℕ, [], ◌≡◌, ◌≢◌}, Vec.Iter.into_iter_items}
 
 -- the words of a command line behind its first, which is the program's name; none where one of them is no text
 abbrev pub words_behind : Result (IntoIter (String Global) Global) Error → List (String Global)

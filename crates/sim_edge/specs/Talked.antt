@@ -2,15 +2,14 @@
 use Rattle.sim_edge.specs.declared.ending.Ending.TheVariants as ending
 use Rattle.sim_top.specs.declared.status.Status.TheVariants as status
 use Rattle.sim_top.specs.declared.stop.Stop.TheVariants as stop
-use Rattle.sim_edge.specs.{Endings.ended_as, Words.Talk, Words.talk_of, Words.to_live, Words.to_relay, declared.asking.Asked.Asked}
-use Rattle.sim_live.specs.{Relays.IsRelay, Relays.Relays, declared.relaying.RelayRules.RelayRules}
-use Rattle.sim_talk.specs.{Talks.Extends, Talks.History, Talks.IsBeginning, Talks.Passed, Talks.told, declared.fault.TalkFault.TalkFault}
-use Rattle.sim_top.specs.{Outcome.Outcome, Outcome.session_match_in, Reads.GaveThenFailed, Reads.IsSilent, Stops.ended_by, Stops.status_of, Stops.stop_text}
-use Rattle.std.specs.Prelude.{List, Ok, Option, Result, [], length, option_map, ℕ, ⊤, ◌<◌, ◌∷◌, ◌≡◌, ◌≤◌, ◌⊎◌}
-use Rattle.{sim_base.specs.Limits.IsFrom, sim_base.specs.declared.setup.Setup.Setup, sim_edge.specs.declared.ending.Ending.Ending, sim_live.specs.Live.Lives}
+use Rattle.sim_base.specs.{declared.setup.Setup.Setup, Limits.IsFrom}
+use Rattle.sim_edge.specs.{declared.{asking.Asked.Asked, ending.Ending.Ending}, Endings.ended_as, Words.{Talk, talk_of, to_live, to_relay}}
+use Rattle.sim_live.specs.{declared.relaying.RelayRules.RelayRules, Live.Lives, Relays.{IsRelay, Relays}}
+use Rattle.{sim_store.specs.{declared.counts.Counts.Counts, Shelf.{raised, Rose}}, sim_talk.specs.declared.fault.TalkFault.TalkFault}
+use Rattle.{sim_talk.specs.Talks.{Breaks, Extends, History, IsBeginning, Passed, told}, sim_top.specs.declared.{status.Status.Status, stop.Stop.Stop}}
+use Rattle.sim_top.specs.{Outcome.{Outcome, session_match_in}, Reads.{GaveThenFailed, IsSilent}, Stops.{ended_by, status_of, stop_text}}
+use Rattle.std.specs.Prelude.{Err, IfSome, length, List, Ok, Option, option_map, Result, ℕ, ⊤, [], ◌<◌, ◌∷◌, ◌≡◌, ◌≤◌, ◌⊎◌}
 use Rattle.{sim_report.specs.Refusals.refusal_text, sim_report.specs.declared.refusal.Refusal.TheVariants.List as OfList, sim_store.specs.Held.File}
-use Rattle.{sim_store.specs.Shelf.Rose, sim_store.specs.Shelf.raised, sim_store.specs.declared.counts.Counts.Counts, sim_talk.specs.Talks.Breaks}
-use Rattle.{sim_top.specs.declared.status.Status.Status, sim_top.specs.declared.stop.Stop.Stop, std.specs.Prelude.Err, std.specs.Prelude.IfSome}
 
 -- the talk over a session of a match took place
 abbrev pub TalkedOver : Setup → ℕ → Ending → History → History → Type 0

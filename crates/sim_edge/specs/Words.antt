@@ -1,7 +1,6 @@
 -- The words of a talk, and what they ask for.
-use Rattle.sim_edge.specs.declared.asking.Asked.{Asked, TheVariants.Live, TheVariants.Relay}
-use Rattle.std.specs.Prelude.{[], codes, if◌then◌else◌, List, nat_le, None, Option, option_and_then, option_map, Some, ℕ, ◌&&◌, ◌∷◌}
-use Rattle.std.specs.Str.{bytes_eq}
+use Rattle.sim_edge.specs.declared.asking.Asked.{Asked, TheVariants.{Live, Relay}}
+use Rattle.std.specs.{Prelude.{codes, if◌then◌else◌, List, nat_le, None, Option, option_and_then, option_map, Some, ℕ, [], ◌&&◌, ◌∷◌}, Str.bytes_eq}
 use Rattle.{sim_json.specs.Commands.next_or, sim_live.specs.declared.relaying.RelayRules.RelayRules as Rules, sim_top.specs.Words.turn_in}
 
 -- what is asked for: a session of the match of a file, that begins with so many clients; or the server

@@ -1,21 +1,19 @@
 //! The top call of talks: from the words to how it ended. The match is read before anything is told.
 
-ghost use Rattle.std.specs.Prelude.{[], All, IfOk, IfSome, length, vec_capacity, ◌≡◌, ◌≤◌};
-ghost use Rattle.sim_edge.specs.{Endings.ended_as, Talked.IsRefusal, Talked.IsTalk, Talked.OfRelay, Talked.ReadsFor, Talked.Refused, Talked.ShelfCauses};
-ghost use Rattle.sim_top.specs.Stops.{CausesOf, status_of, stop_text as text_of_stop};
-ghost use Rattle.{sim_base.specs.Limits.IsSetup, sim_edge.specs.Talked.TalkCauses, sim_edge.specs.Talked.TalksOf, sim_edge.specs.Words.talk_of};
-ghost use Rattle.{sim_system.specs.Meanings.HaveKinds, sim_system.specs.RigWords.systems_of, sim_talk.specs.Talks.Tells, sim_top.specs.Stops.AreFresh};
+ghost use Rattle.{sim_base.specs.Limits.IsSetup, sim_edge.specs.{Endings.ended_as, Talked.{IsRefusal, IsTalk, OfRelay, ReadsFor, Refused, ShelfCauses}}};
+ghost use Rattle.{sim_edge.specs.{Talked.{TalkCauses, TalksOf}, Words.talk_of}, sim_system.specs.{Meanings.HaveKinds, RigWords.systems_of}};
+ghost use Rattle.{sim_talk.specs.Talks.Tells, sim_top.specs.Stops.{AreFresh, CausesOf, status_of, stop_text as text_of_stop}};
+ghost use Rattle.std.specs.Prelude.{All, IfOk, IfSome, length, vec_capacity, [], ◌≡◌, ◌≤◌};
 
 use crate::asking::Asked;
 use crate::ending::Ending;
-use sim_base::Setup;
+use sim_base::{Global, Setup};
 use sim_live::{live, relay};
 use sim_orders::OrderTable;
 use sim_store::{Failed, Shelf};
 use sim_system::{Rig, System};
 use sim_talk::{Talk, TalkFault};
 use sim_top::{Status, Stop, read_session_match, stop_text};
-use std::alloc::Global;
 
 /// How a talk ended, and the rigs that it was handed.
 #[derive(Drop)]

@@ -1,18 +1,16 @@
 //! The run with a handler for each kind of command and of deed, over any shelf and any sink. The program calls it with the real ones, and
 //! the tests with those in memory.
 
+ghost use Rattle.{sim_edge.specs.Run.Ran, sim_orders.specs.Orders.{Fulfils, IsGiven, kind_of}, sim_top.specs.{Reads.scene, Stops.AreFresh, Words.words_of}};
 ghost use Rattle.std.specs.Prelude.{IfOk, OnErr, ◌≡◌};
-ghost use Rattle.sim_top.specs.{Reads.scene, Stops.AreFresh, Words.words_of};
-ghost use Rattle.{sim_edge.specs.Run.Ran, sim_orders.specs.Orders.Fulfils, sim_orders.specs.Orders.IsGiven, sim_orders.specs.Orders.kind_of};
 
 use crate::deeds::{bartered, tributed};
-use sim_base::{Changes, OutOfMemory};
+use sim_base::{Changes, Global, OutOfMemory};
 use sim_orders::{Handler, OrderTable, Planner, Task};
 use sim_stock::{DeedFunction, DeedHandler, DeedTable};
 use sim_store::{Shelf, Sink};
 use sim_system::{Rig, System};
 use sim_top::{Status, run};
-use std::alloc::Global;
 
 /// The changes that the planner of the command's kind makes.
 pub fn planned(alloc: Global, task: &Task<'_>) -> Result<Changes, OutOfMemory>

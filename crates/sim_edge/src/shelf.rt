@@ -2,10 +2,9 @@
 //! answers to each call has a name, and so have the bytes that a file has left and those that it holds. The shelf is held to
 //! these: it asks for the file that it was asked for, hands on what the system answers, and reads and writes each byte once.
 
-ghost use Rattle.std.specs.{Io.KnownBytes.IsAtEnd, Prelude.◌≡◌, Prelude.[], Prelude.is_some, Prelude.is_ok, Prelude.OnOk, Prelude.IsOk, Prelude.IsTrue};
-ghost use Rattle.std.specs.Prelude.{None, Option};
-ghost use Rattle.sim_edge.specs.{Answers.Closes, Answers.Makes, Answers.Opens, Answers.Reads, Answers.WritesMade, Known.known_of};
-ghost use Rattle.sim_store.specs.{Pieces.Adds, Pieces.Moves, Shelf.MakeCounts, Shelf.OpenCounts, Shelf.opens, Shelf.ReadCounts, Shelf.WriteCounts};
+ghost use Rattle.sim_edge.specs.{Answers.{Closes, Makes, Opens, Reads, WritesMade}, Known.known_of};
+ghost use Rattle.sim_store.specs.{Pieces.{Adds, Moves}, Shelf.{MakeCounts, OpenCounts, opens, ReadCounts, WriteCounts}};
+ghost use Rattle.std.specs.{Io.KnownBytes.IsAtEnd, Prelude.{is_ok, is_some, IsOk, IsTrue, None, OnOk, Option, [], ◌≡◌}};
 
 use crate::again::read_again;
 use crate::faults::{not_made, not_opened};

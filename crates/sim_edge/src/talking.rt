@@ -8,12 +8,11 @@ use crate::asking::Asked;
 use crate::conversing::converse;
 use crate::ending::Ending;
 use crate::running::planned;
-use sim_base::OutOfMemory;
+use sim_base::{Global, OutOfMemory};
 use sim_orders::{Handler, OrderTable, Planner};
 use sim_store::Shelf;
 use sim_system::{Rig, System};
 use sim_talk::Talk;
-use std::alloc::Global;
 
 /// Talks with these cleared rigs. Where there is no memory for the handlers, the talk does not begin.
 pub fn talk_with<S: Shelf, T: Talk>(

@@ -3,9 +3,8 @@
 ghost use Rattle.std.specs.{Prelude.◌≡◌, Prelude.drop, Prelude.IfOk, Prelude.IsOk, Prelude.IsErr, Vec.Iter.into_iter_items};
 ghost use Rattle.sim_edge.specs.Process.{IsNoText, IsUnread, number_of, words_behind};
 
-use sim_base::OutOfMemory;
+use sim_base::{Global, OutOfMemory};
 use sim_top::Status;
-use std::alloc::Global;
 use std::{env, io};
 
 /// The words of a run: all of the command line's behind the first, which is the program's name. Where one of them is no text

@@ -1,8 +1,7 @@
 -- Worked examples of commands, computed from the definitions.
-use Rattle.serde_json.specs.Data.{Data, array, item, no_items, number, string, unsigned}
-use Rattle.sim_base.specs.declared.command.{Command.TheVariants.Stop, PlayerCommand.PlayerCommand}
-use Rattle.std.proofs.Common.{[], Err, Ok, refl, ℕ, ◌∷◌, ◌≡◌}
-use Rattle.{sim_embed.specs.Causes.order_of, sim_embed.specs.Causes.orders_from, sim_json.specs.Commands.command_of, std.specs.Prelude.codes}
+use Rattle.serde_json.specs.Data.{array, Data, item, no_items, number, string, unsigned}
+use Rattle.{sim_base.specs.declared.command.{Command.TheVariants.Stop, PlayerCommand.PlayerCommand}, sim_embed.specs.Causes.{order_of, orders_from}}
+use Rattle.{sim_json.specs.Commands.command_of, std.{proofs.Common.{Err, Ok, refl, ℕ, [], ◌∷◌, ◌≡◌}, specs.Prelude.codes}}
 
 -- [PLAYER,"stop",[7]]
 abbrev stop : ℕ → Data

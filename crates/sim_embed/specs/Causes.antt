@@ -1,13 +1,11 @@
 -- Why a call has no answer. The causes come in the order in which the bytes are handed in; want of memory may come before each of them,
 -- but for bytes of a match that are no text, since that is found without any.
 use Rattle.sim_codec.specs.declared.fault.StateFault.{StateFault, TheVariants.OutOfMemory as no_memory}
-use Rattle.sim_embed.specs.declared.refused.Refused.TheVariants.{Commands, Match, OutOfMemory, Over, State}
-use Rattle.sim_json.specs.{Commands.next_or, Commands.numbered, Values.list_of, Values.natural_in, Values.value_of}
-use Rattle.std.specs.Prelude.{Err, List, None, Ok, Option, Result, Some, Vec, [], option_and_then, true, ℕ, ◌+◌, ◌<◌, ◌∷◌, ◌≡◌, ◌≢◌, ◌≤◌, ◌⊎◌}
-use Rattle.{serde_json.specs.Data.Data, sim_base.specs.Limits.IsFrom, sim_base.specs.declared.command.PlayerCommand.PlayerCommand}
-use Rattle.{sim_base.specs.declared.setup.Setup.Setup, sim_codec.specs.Loading.RefusedFor, sim_codec.specs.Loading.Stands, sim_embed.specs.Bytes.OfMatch}
-use Rattle.{sim_embed.specs.Bytes.OfState, sim_embed.specs.declared.refused.Refused.Refused, sim_json.specs.Commands.command_of}
-use Rattle.{sim_setup.specs.Refusals.refusal, sim_setup.specs.Setups.setup_of, std.specs.Str.is_utf8, std.specs.declared.alloc.Global.Global}
+use Rattle.{serde_json.specs.Data.Data, sim_base.specs.{declared.{command.PlayerCommand.PlayerCommand, setup.Setup.Setup}, Limits.IsFrom}}
+use Rattle.{sim_codec.specs.Loading.{RefusedFor, Stands}, sim_embed.specs.{Bytes.{OfMatch, OfState}, declared.refused.Refused.{Refused, TheVariants.Commands}}}
+use Rattle.{sim_embed.specs.declared.refused.Refused.TheVariants.{Match, OutOfMemory, Over, State}, sim_json.specs.Commands.{command_of, next_or, numbered}}
+use Rattle.{sim_json.specs.Values.{list_of, natural_in, value_of}, sim_setup.specs.{Refusals.refusal, Setups.setup_of}, std.specs.declared.alloc.Global.Global}
+use Rattle.std.specs.{Prelude.{Err, List, None, Ok, Option, option_and_then, Result, Some, true, Vec, ℕ, [], ◌+◌, ◌<◌, ◌∷◌, ◌≡◌, ◌≢◌, ◌≤◌, ◌⊎◌}, Str.is_utf8}
 
 -- The commands that bytes spell: a list in JSON of which each item has a player, the kind and what follows it.
 

@@ -1,11 +1,10 @@
 -- The numbers of a match, and a row of a state as a record of plain numbers.
-use Rattle.sim_base.specs.declared.state.{Motion.TheVariants.Going, Motion.TheVariants.Still, Row.Row, State.State}
-use Rattle.sim_base.specs.declared.{command.PlayerCommand.PlayerCommand, place.Point.Point, setup.Setup.Setup, state.Aim.Aim, state.Motion.Motion}
-use Rattle.sim_base.specs.{Limits.IsSetup, Limits.IsValid, Spelling.digest, Spelling.spelling, Turn.first_state, Turn.turn}
-use Rattle.sim_embed.specs.{Bytes.OfMatch, Bytes.OfState, Causes.orders_of, declared.plain.Entity.Entity, declared.plain.Facts.Facts}
-use Rattle.std.specs.Prelude.{List, None, Ok, Option, Some, false, if◌then◌else◌, length, min, pos, true, ℕ, ℤ, ◌<◌, ◌≡◌}
-use Rattle.{sim_diff.specs.Difference.difference_of, sim_diff.specs.declared.place.Place.Place, sim_embed.specs.declared.stored.Stamp.Stamp}
-use Rattle.{sim_embed.specs.declared.stored.Stored.Stored, sim_laws.specs.TurnLaws.IsOrderOf, std.specs.Prelude.All, std.specs.Prelude.Bool}
+use Rattle.sim_base.specs.declared.{command.PlayerCommand.PlayerCommand, place.Point.Point, setup.Setup.Setup}
+use Rattle.sim_base.specs.{declared.state.{Aim.Aim, Motion.{Motion, TheVariants.{Going, Still}}, Row.Row, State.State}, Limits.{IsSetup, IsValid}}
+use Rattle.{sim_base.specs.{Spelling.{digest, spelling}, Turn.{first_state, turn}}, sim_diff.specs.{declared.place.Place.Place, Difference.difference_of}}
+use Rattle.sim_embed.specs.{Bytes.{OfMatch, OfState}, Causes.orders_of, declared.{plain.{Entity.Entity, Facts.Facts}, stored.{Stamp.Stamp, Stored.Stored}}}
+use Rattle.sim_laws.specs.TurnLaws.{IsOrderOf}
+use Rattle.std.specs.Prelude.{All, Bool, false, if◌then◌else◌, length, List, min, None, Ok, Option, pos, Some, true, ℕ, ℤ, ◌<◌, ◌≡◌}
 
 -- a number in 32 bits, or the greatest such
 abbrev pub in_32_bits : ℕ → ℕ

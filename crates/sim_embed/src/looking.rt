@@ -6,11 +6,10 @@ ghost use Rattle.{sim_base.specs.Limits.IsValid, sim_diff.specs.Difference.numbe
 
 use crate::reading::{match_of, state_of};
 use crate::{Refused, Stamp};
-use sim_base::{OutOfMemory, Setup, State};
+use sim_base::{Global, OutOfMemory, Setup, State};
 use sim_codec::Part;
 use sim_diff::{Place, difference};
 use sim_report::push_show;
-use std::alloc::Global;
 
 /// The digest and the turn of the state that bytes stand for.
 pub fn digest(alloc: Global, game: &[u8], bytes: &[u8]) -> Result<Stamp, Refused>

@@ -1,14 +1,12 @@
 //! The numbers of a match, and the rows of a state, as records of plain numbers that any language can read.
 
-ghost use Rattle.{sim_base.specs.Limits.IsSetup};
-ghost use Rattle.std.specs.Prelude.{◌≡◌, map, IfOk, IfErr};
-ghost use Rattle.sim_embed.specs.{Bytes.OfMatch, Bytes.OfState, Causes.IsNoMatch, Causes.IsNoStateOf};
+ghost use Rattle.{sim_base.specs.Limits.IsSetup, sim_embed.specs.{Bytes.{OfMatch, OfState}, Causes.{IsNoMatch, IsNoStateOf}}};
 ghost use Rattle.sim_embed.specs.Facts.{aim_of, entity_of as entity_by, facts_of, goal_of, health_of, in_32_bits, is_going};
+ghost use Rattle.std.specs.Prelude.{IfErr, IfOk, map, ◌≡◌};
 
 use crate::Refused;
 use crate::reading::{match_of, state_of};
-use sim_base::{Aim, Fixed, Motion, OutOfMemory, Point, Row, Setup};
-use std::alloc::Global;
+use sim_base::{Aim, Fixed, Global, Motion, OutOfMemory, Point, Row, Setup};
 
 /// The numbers of a match: the ground in cells, the players, the turns, how many turns lie between an order and its turn, the most
 /// entities of a player who makes one, and how many templates, first entities and commands the file has.

@@ -3,9 +3,8 @@
 
 ghost use Rattle.sim_orders.specs.Orders.{Fulfils, IsGiven, kind_of};
 
-use sim_base::{Changes, OutOfMemory};
+use sim_base::{Changes, Global, OutOfMemory};
 use sim_orders::Task;
-use std::alloc::Global;
 
 /// The changes that the planner of the command's kind makes.
 pub fn planned(alloc: Global, task: &Task<'_>) -> Result<Changes, OutOfMemory>

@@ -1,15 +1,14 @@
 //! The first state of a match, and a turn from a stored state on. The boxes of the systems are made in each body, since a function may
 //! hand out none.
 
-ghost use Rattle.std.specs.Prelude.{IfErr, IfOk};
-ghost use Rattle.sim_base.specs.{Limits.IsSetup, Turn.first_state, Turn.turn as turn_by};
-ghost use Rattle.sim_embed.specs.{Causes.IsNoMatch, Causes.IsNoTurn, Facts.CanTurn, Facts.IsStored, Facts.StoresFirst, Facts.StoresTurn};
-ghost use Rattle.sim_system.specs.{Meanings.HaveKinds, RigWords.systems_of};
+ghost use Rattle.sim_base.specs.{Limits.IsSetup, Turn.{first_state, turn as turn_by}};
+ghost use Rattle.sim_embed.specs.{Causes.{IsNoMatch, IsNoTurn}, Facts.{CanTurn, IsStored, StoresFirst, StoresTurn}};
+ghost use Rattle.{sim_system.specs.{Meanings.HaveKinds, RigWords.systems_of}, std.specs.Prelude.{IfErr, IfOk}};
 
 use crate::planning::planned;
 use crate::reading::{commands_of, match_of, state_of};
 use crate::{Refused, Stored};
-use sim_base::{OutOfMemory, PlayerCommand, Setup, State};
+use sim_base::{Global, OutOfMemory, PlayerCommand, Setup, State};
 use sim_board::Board;
 use sim_census::Census;
 use sim_ground::Ground;
@@ -17,7 +16,6 @@ use sim_orders::{Handler, OrderTable, Planner};
 use sim_range::Range;
 use sim_system::{Rig, System};
 use sim_watch::Watch;
-use std::alloc::Global;
 
 /// The first state of the match that bytes are.
 pub fn first(alloc: Global, game: &[u8]) -> Result<Stored, Refused>

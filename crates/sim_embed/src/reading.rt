@@ -7,11 +7,10 @@ ghost use Rattle.{sim_embed.specs.Causes.orders_of as orders_of_bytes, sim_setup
 
 use crate::Refused;
 use serde_json::Value;
-use sim_base::{OutOfMemory, PlayerCommand, Setup, State};
+use sim_base::{Global, OutOfMemory, PlayerCommand, Setup, State};
 use sim_codec::{StateFault, load};
 use sim_json::{command_of, list_of, natural_in, value_of};
 use sim_setup::{SetupFault, setup_of};
-use std::alloc::Global;
 
 /// The match that bytes are.
 pub fn match_of(alloc: Global, game: &[u8]) -> Result<Setup, Refused>

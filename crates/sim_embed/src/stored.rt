@@ -1,11 +1,9 @@
 //! A state as its bytes and their digest, and what tells a state without them.
 
-ghost use Rattle.std.specs.Prelude.{IfOk};
-ghost use Rattle.{sim_base.specs.Limits.IsValid, sim_embed.specs.Facts.IsStamp, sim_embed.specs.Facts.IsStored};
+ghost use Rattle.{sim_base.specs.Limits.IsValid, sim_embed.specs.Facts.{IsStamp, IsStored}, std.specs.Prelude.IfOk};
 
-use sim_base::{OutOfMemory, Setup, State};
+use sim_base::{Global, OutOfMemory, Setup, State};
 use sim_codec::{digest, spell};
-use std::alloc::Global;
 
 /// The bytes of a state, and MD5 of them.
 #[derive(Drop)]

@@ -1,11 +1,10 @@
 -- The groups that are kept are those of the facts, also after a note.
-use Rattle.sim_fact_lists.proofs.Common.{[], ap, AreGroups, arith, Ascend, Bool, cond, cons_option, eqb-true, Fact, fact_with, false, filter, get_or, Group}
+use Rattle.sim_fact_lists.proofs.Common.{ap, AreGroups, arith, Ascend, Bool, cond, cons_option, eqb-true, Fact, fact_with, false, filter, get_or, Group}
 use Rattle.sim_fact_lists.proofs.Common.{id_of_fact, joined_by, kept, kept_of, keyed, Kind, left_by, length, List, listed, map, nat_lt, None, not, Option}
-use Rattle.sim_fact_lists.proofs.Common.{placed, refl, Some, subst, suc, sym, take, true, with_id, with_kept, with_only, without, without_id, zero, ℕ, ◌+◌, ◌<◌}
+use Rattle.sim_fact_lists.proofs.Common.{placed, refl, Some, subst, suc, sym, take, true, with_id, with_kept, with_only, without, without_id, zero, ℕ, [], ◌+◌}
+use Rattle.{sim_fact_lists.proofs.{Common.{◌<◌, ◌==◌, ◌∙◌, ◌∷◌, ◌≡◌, ◌≤◌}, Ids.{Above, with_behind, with_first}}, sim_system.proofs.Facts.kept_id}
 use Rattle.sim_fact_lists.proofs.OneFact.{Above as FactsAbove, above_at, above_less, found_id, Missing, missing_above, missing_without, not_found}
 use Rattle.sim_fact_lists.proofs.OneFact.{Rising as FactsRising, rising as facts_rising, rising_without, without_missing}
-use Rattle.sim_fact_lists.proofs.{Common.◌==◌, Common.◌∙◌, Common.◌∷◌, Common.◌≡◌, Common.◌≤◌, Ids.Above, Ids.with_behind, Ids.with_first}
-use Rattle.sim_system.proofs.Facts.{kept_id}
 
 -- by any key
 module _ (key : Fact → ℕ) where

@@ -1,11 +1,10 @@
 -- The facts that a system holds stay such.
-use Rattle.sim_fact_lists.proofs.Common.{Census, cond, cond_both, cons_option, Err, Fact, fact_with, false, Gone, Ground, Holds, HoldsIfAny, id_in, IfSome}
-use Rattle.sim_fact_lists.proofs.Common.{MatchOption, Moved, nat_lt, None, not, Note, noted, NoteFits, Ok, OnErr, OnOk, Option, origin, Owned, part_for}
-use Rattle.sim_fact_lists.proofs.Common.{[], aim_of, Aimed, All, All-cons, All-head, All-nil, All-tail, ap, AreHeld, AreInRange, arith, Ascend, Bool, Born}
-use Rattle.sim_fact_lists.proofs.Common.{is_inside, IsHeld, IsInRange, IsLand, IsRawFrom, IsSome, IsTrue, keeps, kept, kept_of, Kind, Land, length, List}
-use Rattle.sim_fact_lists.proofs.Common.{part_noted, placed, Range, refl, Result, size_of, Some, subst, sym, true, Watch, with_changed, with_kept, with_only}
-use Rattle.sim_fact_lists.proofs.Common.{without, ℕ, ℤ, ◌==◌, ◌∙◌, ◌∷◌, ◌≡◌, ◌≤◌}
-use Rattle.sim_fact_lists.proofs.OneFact.{ascends, found_id, noted_is, noted_only, part_named, rising, rising_kept}
+use Rattle.sim_fact_lists.proofs.Common.{aim_of, Aimed, All, All-cons, All-head, All-nil, All-tail, ap, AreHeld, AreInRange, arith, Ascend, Bool, Born, Census}
+use Rattle.sim_fact_lists.proofs.Common.{cond, cond_both, cons_option, Err, Fact, fact_with, false, Gone, Ground, Holds, HoldsIfAny, id_in, IfSome, is_inside}
+use Rattle.sim_fact_lists.proofs.Common.{IsHeld, IsInRange, IsLand, IsRawFrom, IsSome, IsTrue, keeps, kept, kept_of, Kind, Land, length, List, MatchOption}
+use Rattle.sim_fact_lists.proofs.Common.{Moved, nat_lt, None, not, Note, noted, NoteFits, Ok, OnErr, OnOk, Option, origin, Owned, part_for, part_noted, placed}
+use Rattle.sim_fact_lists.proofs.Common.{Range, refl, Result, size_of, Some, subst, sym, true, Watch, with_changed, with_kept, with_only, without, ℕ, ℤ, []}
+use Rattle.sim_fact_lists.proofs.{Common.{◌==◌, ◌∙◌, ◌∷◌, ◌≡◌, ◌≤◌}, OneFact.{ascends, found_id, noted_is, noted_only, part_named, rising, rising_kept}}
 
 module _ (land : Land) (limits : IsLand land) where
   origin_inside : IsTrue (is_inside (size_of land) origin)

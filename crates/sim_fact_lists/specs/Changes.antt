@@ -1,8 +1,7 @@
 -- What a note changes: all that is kept of one id.
-use Rattle.sim_base.specs.{Limits.IsLand, Limits.IsRawFrom, Places.is_inside, Rows.size_of, declared.place.Point.Point, declared.setup.Land.Land}
-use Rattle.sim_system.specs.declared.kind.Kind.{Kind, TheVariants.Census, TheVariants.Ground, TheVariants.Range, TheVariants.Watch}
-use Rattle.sim_system.specs.declared.note.Note.{Note, TheVariants.Aimed, TheVariants.Born, TheVariants.Gone, TheVariants.Moved, TheVariants.Owned}
-use Rattle.sim_system.specs.{Notes.aim_of, Notes.id_of_fact, Notes.kept, Notes.with_kept, Notes.without, declared.fact.Fact.Fact}
+use Rattle.sim_base.specs.{declared.{place.Point.Point, setup.Land.Land}, Limits.{IsLand, IsRawFrom}, Places.is_inside, Rows.size_of}
+use Rattle.sim_system.specs.declared.{fact.Fact.Fact, kind.Kind.{Kind, TheVariants.{Census, Ground, Range, Watch}}}
+use Rattle.sim_system.specs.{declared.note.Note.{Note, TheVariants.{Aimed, Born, Gone, Moved, Owned}}, Notes.{aim_of, id_of_fact, kept, with_kept, without}}
 use Rattle.std.specs.List.Sorted.{IsStrictlyIncreasing}
 use Rattle.std.specs.Prelude.{All, Bool, false, if◌then◌else◌, IsTrue, length, List, map, None, Option, option_map, slice_index_or, Some, ℕ, ℤ, ◌<◌, ◌≡◌, ◌≤◌}
 

@@ -1,8 +1,7 @@
 //! Facts in a list by id: found near a place or by halves, and all that is kept of one id set.
 
+ghost use Rattle.{sim_fact_lists.specs.Changes.{Ascend, Belongs, Stands, with_only}, sim_system.specs.Notes.fact_with};
 ghost use Rattle.std.specs.Prelude.{IfSome, IsOk, IsTrue, MatchResult, OnErr, OnOk, option_copied, vec_capacity, vec_len, ◌<◌, ◌≡◌};
-ghost use Rattle.sim_fact_lists.specs.Changes.{Ascend, Belongs, Stands, with_only};
-ghost use Rattle.sim_system.specs.Notes.{fact_with};
 
 use sim_base::OutOfMemory;
 use sim_system::Fact;

@@ -4,8 +4,7 @@ ghost use Rattle.std.specs.{List.Sorted.IsStrictlyIncreasing, Prelude.◌≡◌,
 ghost use Rattle.sim_fact_lists.specs.{Ids.IdBelongs, Ids.IdStands, Ids.with_id, Ids.without_id, Queues.HasPlace, Queues.queued};
 
 use crate::queue::Queue;
-use sim_base::OutOfMemory;
-use std::alloc::Global;
+use sim_base::{Global, OutOfMemory};
 
 /// The ids of one key, ascending.
 #[derive(Drop)]

@@ -2,13 +2,11 @@
 //! comes or goes moves no id of another key. A key is found where the last one like it was or by halves; one that has lost its last id
 //! keeps its list for the next. A system keeps such groups beside its facts.
 
-ghost use Rattle.std.specs.Prelude.{◌≡◌, ℕ, [], if◌then◌else◌, OnOk, IsTrue, ◌==◌, MatchResult};
-ghost use Rattle.sim_fact_lists.specs.Groups.{forgotten, GroupBelongs, GroupStands, HasRoom, KeysAscend, listed};
-ghost use Rattle.sim_fact_lists.specs.Ids.{with_id, without_id};
+ghost use Rattle.sim_fact_lists.specs.{Groups.{forgotten, GroupBelongs, GroupStands, HasRoom, KeysAscend, listed}, Ids.{with_id, without_id}};
+ghost use Rattle.std.specs.Prelude.{if◌then◌else◌, IsTrue, MatchResult, OnOk, ℕ, [], ◌==◌, ◌≡◌};
 
 use crate::group::Group;
-use sim_base::OutOfMemory;
-use std::alloc::Global;
+use sim_base::{Global, OutOfMemory};
 use std::cell::Cell;
 
 /// Groups of ids, ascending by key. The places of the last even key and of the last odd one that were looked for are hints for the

@@ -7,9 +7,8 @@ ghost use Rattle.{sim_base.specs.Limits.IsLand, sim_fact_lists.specs.Changes.Hol
 use crate::edit::{place_near, put};
 use crate::land::copy_of;
 use crate::part::{all_kept, id_of, part_after};
-use sim_base::{Land, OutOfMemory};
+use sim_base::{Global, Land, OutOfMemory};
 use sim_system::{Fact, Kind, Note};
-use std::alloc::Global;
 use std::cell::Cell;
 
 /// What a system keeps: its land, its facts by id, and how often it was built. The place of the last fact that was looked for

@@ -4,9 +4,8 @@ ghost use Rattle.std.specs.Prelude.{false, IfOk, None, ◌≡◌};
 ghost use Rattle.sim_fact_lists.specs.Changes.{id_in, part_aimed, part_moved, part_noted, part_owned};
 ghost use Rattle.sim_system.specs.Notes.{keeps as keeps_of, kept as kept_part, kept_of, origin as origin_at, part_for as part_of};
 
-use sim_base::{Fixed, OutOfMemory, Point};
+use sim_base::{Fixed, Global, OutOfMemory, Point};
 use sim_system::{Fact, Facts, Kind, Note};
-use std::alloc::Global;
 
 // Whether a kind keeps anything of an entity.
 fn keeps(kind: Kind, fact: &Fact) -> bool

@@ -3,8 +3,7 @@
 
 ghost use Rattle.std.specs.Prelude.{◌≤◌, length};
 
-use sim_base::OutOfMemory;
-use std::alloc::Global;
+use sim_base::{Global, OutOfMemory};
 
 /// Ids in some order. Those that left at the front still stand there, until room is made and there are more of them than of
 /// the others.
@@ -16,9 +15,8 @@ pub struct Queue {
 }
 
 impl Queue {
-    ghost use Rattle.std.specs.List.{insert as inserted, remove as removed};
-    ghost use Rattle.std.specs.Prelude.{◌≡◌, ◌<◌, ◌≤◌, [], length, IsTrue};
     ghost use Rattle.sim_fact_lists.specs.Queues.{HasPlace, MakesRoom, queued};
+    ghost use Rattle.std.specs.{List.{insert as inserted, remove as removed}, Prelude.{IsTrue, length, [], ◌<◌, ◌≡◌, ◌≤◌}};
 
     /// It has no id, and takes no memory yet.
     pub fn new(alloc: Global) -> Queue

@@ -1,8 +1,7 @@
 -- Words of 64 bits, of which one bit is set or cleared.
-use Rattle.{sim_grid.specs.Packed.ArePacked, sim_grid.specs.Packed.is_set_at, std.proofs.Common.◌%◌, std.proofs.Common.◌+◌, std.proofs.Common.◌-◌}
-use Rattle.std.proofs.Common.{◌/◌, ◌<◌, ◌^◌, ◌∙◌, ◌≡◌, ◌⊎◌, ap, arith, Bool, false, get_or, inl, inr, length, List, nat_eq, replicate, set, subst, sym, true, ℕ}
-use Rattle.std.proofs.lemmas.{Bool.cases_eq, List.get_or-replicate, List.get_or-set_other, List.get_or-set_same, List.length-replicate, List.length-set}
-use Rattle.std.{proofs.lemmas.Nat.Bits.bit_at_ones, specs.Int.bit_at}
+use Rattle.{sim_grid.specs.Packed.{ArePacked, is_set_at}, std.proofs.Common.{ap, arith, Bool, false, get_or, inl, inr, length, List, nat_eq, replicate, set}}
+use Rattle.std.proofs.{Common.{subst, sym, true, ℕ, ◌%◌, ◌+◌, ◌-◌, ◌/◌, ◌<◌, ◌^◌, ◌∙◌, ◌≡◌, ◌⊎◌}, lemmas.{Bool.cases_eq, List.get_or-replicate}}
+use Rattle.std.{proofs.lemmas.{List.{get_or-set_other, get_or-set_same, length-replicate, length-set}, Nat.Bits.bit_at_ones}, specs.Int.bit_at}
 
 same_place : (k place : ℕ) → k / 64 ≡ place / 64 → k % 64 ≡ place % 64 → k ≡ place
 same_place k place e f = omega (arith, e, f)

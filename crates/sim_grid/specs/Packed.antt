@@ -1,6 +1,5 @@
 -- The open cells of a ground as words of 64 bits.
-use Rattle.std.specs.Int.{bit_at}
-use Rattle.std.specs.Prelude.{◌≡◌, ℕ, ◌+◌, ◌/◌, ◌%◌, ◌<◌, Bool, false, List, length, nat_eq, slice_index_or}
+use Rattle.std.specs.{Int.bit_at, Prelude.{Bool, false, length, List, nat_eq, slice_index_or, ℕ, ◌%◌, ◌+◌, ◌/◌, ◌<◌, ◌≡◌}}
 
 -- whether the bit of a place is set
 abbrev pub is_set_at : List ℕ → ℕ → Bool

@@ -1,14 +1,12 @@
 //! Which cells of a ground are open: one truth value for each, row by row. It stands below the grid, which keeps beside
 //! it what steps they leave.
 
-ghost use Rattle.std.specs.Prelude.{IfOk, pos, replicate, slice_get, slice_set, Some, true, ◌*◌, ◌+ℤ◌, ◌<◌, ◌≡◌, ◌≤ℤ◌};
-ghost use Rattle.sim_base.specs.Places.{cell_at as cell_of_numbers, IsOnGround, neighbour as neighbour_of, offsets};
-ghost use Rattle.sim_base.specs.declared.place.Cell.{Cell};
+ghost use Rattle.sim_base.specs.{declared.place.Cell.Cell, Places.{cell_at as cell_of_numbers, IsOnGround, neighbour as neighbour_of, offsets}};
 ghost use Rattle.sim_grid.specs.Grids.{HasSpotBeside, is_open_at, IsDepth, IsGrid, IsGroundSize, IsOneOff, IsWidth, place_of};
+ghost use Rattle.std.specs.Prelude.{IfOk, pos, replicate, slice_get, slice_set, Some, true, ◌*◌, ◌+ℤ◌, ◌<◌, ◌≡◌, ◌≤ℤ◌};
 
 use crate::spot::Spot;
-use sim_base::{Cell, OutOfMemory};
-use std::alloc::Global;
+use sim_base::{Cell, Global, OutOfMemory};
 use std::marker::Model;
 
 /// The open cells of a ground. Contracts see the ground's size, and a list of truth values by z, then x.

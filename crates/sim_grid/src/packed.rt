@@ -3,8 +3,7 @@
 ghost use Rattle.std.specs.Prelude.{◌≡◌, ◌+◌, ◌/◌, ◌<◌, ◌≤◌, true, Bool, List, replicate, slice_set, IfOk, length, vec_len};
 ghost use Rattle.sim_grid.specs.Packed.{ArePacked};
 
-use sim_base::OutOfMemory;
-use std::alloc::Global;
+use sim_base::{Global, OutOfMemory};
 
 // How many cells a word tells of.
 const CELLS: usize = 64;

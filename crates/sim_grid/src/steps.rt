@@ -6,8 +6,7 @@ ghost use Rattle.sim_base.specs.Places.{beside_open, IsOnGround};
 ghost use Rattle.sim_grid.specs.Grids.{AreFirstSteps, AreSteps, AreStepsApart, AreStepsFrom, field_of_grid, is_open_at, is_open_step, IsNoted, LooksFrom};
 
 use crate::cells::Cells;
-use sim_base::{Cell, OutOfMemory};
-use std::alloc::Global;
+use sim_base::{Cell, Global, OutOfMemory};
 
 // Whether both cells beside a diagonal step are open.
 fn is_beside_open(cells: &Cells, from: Cell, to: Cell) -> bool

@@ -1,9 +1,8 @@
 -- Cells that were closed or opened are listed, and are all by which the grid differs from its labels.
-use Rattle.sim_ground.proofs.Common.{[], ap, arith, Bool, Cell, cond, false, inl, inr, is_open_at, is_some, IsOnGround, List, not, OpenCells, Option, refl}
-use Rattle.sim_ground.proofs.Common.{same_cell, same_cell-true, subst, sym, true, ℕ, ◌&&◌, ◌++◌, ◌||◌, ◌∙◌, ◌∷◌, ◌≡◌, ◌⊎◌}
-use Rattle.sim_ground.specs.Mending.{AddsTurned, Closes, is_turned}
-use Rattle.sim_search.{proofs.Regions.over, specs.Floods.IsMore, specs.Floods.labelled}
-use Rattle.std.proofs.{Common.Contains, lemmas.List.Elements.Contains-append_left, lemmas.List.Elements.Contains-push, lemmas.List.Elements.Contains-push_cases}
+use Rattle.sim_ground.proofs.Common.{ap, arith, Bool, Cell, cond, false, inl, inr, is_open_at, is_some, IsOnGround, List, not, OpenCells, Option, refl}
+use Rattle.sim_ground.proofs.Common.{same_cell, same_cell-true, subst, sym, true, ℕ, [], ◌&&◌, ◌++◌, ◌||◌, ◌∙◌, ◌∷◌, ◌≡◌, ◌⊎◌}
+use Rattle.{sim_ground.specs.Mending.{AddsTurned, Closes, is_turned}, sim_search.{proofs.Regions.over, specs.Floods.{IsMore, labelled}}}
+use Rattle.std.proofs.{Common.Contains, lemmas.List.Elements.{Contains-append_left, Contains-push, Contains-push_cases}}
 
 module _ (g : OpenCells) (label : Cell → Option ℕ) where
   pub adds_nothing : (among : Cell → Bool) (xs : List Cell) → ((c : Cell) → among c ≡ false) → AddsTurned g label among xs xs

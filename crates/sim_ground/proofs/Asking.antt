@@ -1,10 +1,9 @@
 -- Each ask of a ground over its grid is that over its land and facts.
-use Rattle.sim_ground.proofs.{Common.way_told, Common.◌∙◌, Over.same_way, Over.spot_is, Turning.over_is}
-use Rattle.sim_ground.proofs.Common.{field_of_grid, Found, Ground, HoldsIfAny, is_inside, is_open_at, IsKept, IsOnGround, IsOpened, IsOver, IsPlaced, kind_for}
+use Rattle.{sim_base.proofs.GroundPoints.placed_on, sim_ground.proofs.Common.{answer, ap, AreLabels, Ask, AskFits, Bool, Cell, cells_of, Fact, field_of_grid}}
+use Rattle.sim_ground.proofs.Common.{filter, Found, Ground, HoldsIfAny, is_inside, is_open_at, IsKept, IsOnGround, IsOpened, IsOver, IsPlaced, IsTrue, kind_for}
+use Rattle.sim_ground.proofs.{Common.{List, MatchOption, Option, Some, way_told, ◌∙◌, ◌≡◌}, Over.{same_way, spot_is}, Turning.over_is}
 use Rattle.sim_ground.proofs.Common.{label_in, Land, least_of, Opened, Place, Point, Size, spot_key, subst, sym, Truth, Way as WayAnswer, way_in, way_of}
-use Rattle.sim_ground.proofs.Common.{◌≡◌, Bool, List, IsTrue, MatchOption, Some, filter, Option, answer, ap, AreLabels, Ask, AskFits, Cell, cells_of, Fact}
 use Rattle.sim_system.specs.declared.ask.Ask.TheVariants as ask
-use Rattle.sim_base.proofs.GroundPoints.{placed_on}
 
 -- an ask of the ground that fits, where there is a land
 abbrev pub MayAsk : Option Land → List Fact → Ask → Type 0

@@ -1,12 +1,11 @@
 -- Layers over cells, one cell after another.
 use Rattle.sim_base.proofs.Tests.{left_true, no_number, one_more, past, right_true}
-use Rattle.sim_ground.proofs.Common.{List, MayChange, MayStep, most_layers, mul-add-lt, nat_le, nat_lt, nat_tests, one_if, OpenCells, place_of, pos, Rect, refl}
 use Rattle.sim_ground.proofs.Common.{ap, AreAtMost, AreOpenWhereNone, arith, Bool, Cell, count_by, count_by-le-length, count_by_more_no, count_by_more_yes}
 use Rattle.sim_ground.proofs.Common.{covers, false, get_or, get_or-replicate, get_or-set_other, get_or-set_same, get_or_default, in_row, in_rows, int_le}
 use Rattle.sim_ground.proofs.Common.{is_open_at, IsGrid, IsOnGround, layers_at, LayersChange, LayersRise, length, length-replicate, length-set, length-take}
+use Rattle.sim_ground.proofs.Common.{List, MayChange, MayStep, most_layers, mul-add-lt, nat_le, nat_lt, nat_tests, one_if, OpenCells, place_of, pos, Rect, refl}
 use Rattle.sim_ground.proofs.Common.{replicate, same_by_parts, same_cell, same_cell-true, same_from_place, set, Size, Steps, subst, sym, take, true, ℕ, ◌&&◌}
-use Rattle.sim_ground.proofs.Common.{◌*◌, ◌+◌, ◌<◌, ◌==◌, ◌||◌, ◌∙◌, ◌≡◌, ◌≤◌}
-use Rattle.std.proofs.lemmas.Bool.{and_from, and_right}
+use Rattle.{sim_ground.proofs.Common.{◌*◌, ◌+◌, ◌<◌, ◌==◌, ◌||◌, ◌∙◌, ◌≡◌, ◌≤◌}, std.proofs.lemmas.Bool.{and_from, and_right}}
 
 -- Stretches of cells, one cell or one row more.
 

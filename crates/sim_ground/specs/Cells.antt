@@ -1,7 +1,6 @@
 -- The cells of a ground, row by row, and the nearer one of two.
-use Rattle.sim_base.specs.{Places.centre_of, Places.square, Ways.lesser_of, declared.place.Cell.Cell, declared.place.Point.Point, declared.place.Rect.Rect}
-use Rattle.std.specs.List.{flat_map, range_with_len}
-use Rattle.std.specs.Prelude.{[], Bool, false, int_le, List, map, None, Option, Some, ℕ, ℤ, ◌&&◌, ◌<◌, ◌∷◌, ◌≡◌}
+use Rattle.sim_base.specs.{declared.place.{Cell.Cell, Point.Point, Rect.Rect}, Places.{centre_of, square}, Ways.lesser_of}
+use Rattle.std.specs.{List.{flat_map, range_with_len}, Prelude.{Bool, false, int_le, List, map, None, Option, Some, ℕ, ℤ, [], ◌&&◌, ◌<◌, ◌∷◌, ◌≡◌}}
 
 -- the first n cells of row z
 abbrev pub row_of : ℕ → ℕ → List Cell

@@ -1,8 +1,7 @@
 -- Stretches of cells, and the grid of the open cells of a land with obstructions.
-use Rattle.sim_base.specs.{Places.IsOnGround, Places.Size, Rows.size_of, declared.place.Cell.Cell, declared.setup.Land.Land}
-use Rattle.std.specs.Prelude.{nat_le, nat_lt, ℕ, ◌&&◌, ◌==◌, ◌≡◌, ◌≤◌}
-use Rattle.{sim_grid.specs.Grids.OpenCells, sim_grid.specs.Grids.is_open_at, sim_ground.specs.declared.window.Window.Window}
-use Rattle.{sim_system.specs.Meanings.is_open_among, sim_system.specs.declared.fact.Fact.Fact, std.specs.Prelude.Bool, std.specs.Prelude.List}
+use Rattle.{sim_base.specs.{declared.{place.Cell.Cell, setup.Land.Land}, Places.{IsOnGround, Size}, Rows.size_of}, sim_grid.specs.Grids.{is_open_at, OpenCells}}
+use Rattle.{sim_ground.specs.declared.window.Window.Window, sim_system.specs.{declared.fact.Fact.Fact, Meanings.is_open_among}}
+use Rattle.std.specs.Prelude.{Bool, List, nat_le, nat_lt, ℕ, ◌&&◌, ◌==◌, ◌≡◌, ◌≤◌}
 
 -- the cells of a row, from the first to before the end
 abbrev pub in_row : ℕ → ℕ → ℕ → Cell → Bool

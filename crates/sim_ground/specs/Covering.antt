@@ -1,8 +1,7 @@
 -- What the layers of a cover may be drawn of, and what becomes of it where layers come or go.
-use Rattle.std.specs.Prelude.{◌≡◌, ℕ, ◌≤◌, Bool, false, List, length}
-use Rattle.sim_base.specs.{Limits.IsLand, declared.place.Cell.Cell, declared.setup.Land.Land}
-use Rattle.sim_ground.specs.{Layers.AreAtMost, Layers.LayersChange, Layers.LayersRise, Layers.most_layers, declared.cover.Cover.Cover}
-use Rattle.sim_system.specs.declared.fact.Fact.{Fact}
+use Rattle.sim_base.specs.{declared.{place.Cell.Cell, setup.Land.Land}, Limits.IsLand}
+use Rattle.{sim_ground.specs.{declared.cover.Cover.Cover, Layers.{AreAtMost, LayersChange, LayersRise, most_layers}}, sim_system.specs.declared.fact.Fact.Fact}
+use Rattle.std.specs.Prelude.{Bool, false, length, List, ℕ, ◌≡◌, ◌≤◌}
 
 -- a land is within its limits, and has no more obstructions than a match has entities
 pub record MayDraw (land : Land) (facts : List Fact) : Type 0 where

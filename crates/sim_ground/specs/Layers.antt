@@ -1,10 +1,9 @@
 -- How many rectangles cover each cell, and what one more or fewer changes.
-use Rattle.sim_base.specs.{Commands.rect_covers, Places.IsOnGround, Places.Size, Places.covers, Rows.size_of, declared.place.Cell.Cell}
-use Rattle.std.specs.Prelude.{[], Bool, count_by, false, IsNone, length, List, MatchOption, None, Option, slice_index, Some, true, ℕ, ◌*◌, ◌+◌, ◌<◌, ◌==◌, ◌≡◌}
-use Rattle.std.specs.Prelude.{◌≤◌}
-use Rattle.{sim_base.specs.declared.setup.Land.Land, sim_fact_lists.specs.Changes.one_if, sim_fact_lists.specs.Changes.passes, sim_grid.specs.Grids.OpenCells}
-use Rattle.{sim_grid.specs.Grids.is_open_at, sim_grid.specs.Grids.place_of, sim_search.specs.Floods.AreLabels, sim_search.specs.Floods.label_in}
-use Rattle.{sim_search.specs.declared.labels.Labels.Labels, sim_system.specs.Meanings.field_among, sim_system.specs.declared.fact.Fact.Fact}
+use Rattle.sim_base.specs.{Commands.rect_covers, declared.{place.Cell.Cell, setup.Land.Land}, Places.{covers, IsOnGround, Size}, Rows.size_of}
+use Rattle.{sim_fact_lists.specs.Changes.{one_if, passes}, sim_grid.specs.Grids.{is_open_at, OpenCells, place_of}}
+use Rattle.sim_search.specs.{declared.labels.Labels.Labels, Floods.{AreLabels, label_in}}
+use Rattle.{sim_system.specs.{declared.fact.Fact.Fact, Meanings.field_among}, std.specs.Prelude.Bool}
+use Rattle.std.specs.Prelude.{count_by, false, IsNone, length, List, MatchOption, None, Option, slice_index, Some, true, ℕ, [], ◌*◌, ◌+◌, ◌<◌, ◌==◌, ◌≡◌, ◌≤◌}
 
 -- the number of closed rectangles and of obstructions that cover a cell
 abbrev pub layers_among : Land → List Fact → Cell → ℕ

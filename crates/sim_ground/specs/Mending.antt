@@ -1,7 +1,6 @@
 -- Before which turns of the ground labels may be mended, and what becomes of them.
-use Rattle.sim_base.specs.{Places.IsOnGround, Places.Size, declared.place.Cell.Cell}
-use Rattle.sim_grid.specs.Grids.{field_of_grid, is_open_at, OpenCells}
-use Rattle.sim_search.specs.{Floods.AreLabels, Floods.label_in, Floods.labelled, declared.labels.Labels.Labels}
+use Rattle.{sim_base.specs.{declared.place.Cell.Cell, Places.{IsOnGround, Size}}, sim_grid.specs.Grids.{field_of_grid, is_open_at, OpenCells}}
+use Rattle.sim_search.specs.{declared.labels.Labels.Labels, Floods.{AreLabels, label_in, labelled}}
 use Rattle.std.specs.Prelude.{Bool, Contains, false, if◌then◌else◌, is_some, List, not, Option, true, ℕ, ◌&&◌, ◌≡◌, ◌⊎◌}
 
 -- Which cells a rectangle that came or went closed or opened.

@@ -1,8 +1,7 @@
 -- What a ground keeps beside its obstructions.
-use Rattle.{sim_ground.specs.Layers.AreLayersOf, sim_ground.specs.declared.opened.Opened.Opened, sim_system.specs.declared.fact.Fact.Fact}
-use Rattle.std.specs.Prelude.{◌≡◌, Bool, false, List, is_some, Some, Option}
-use Rattle.sim_base.specs.{Rows.size_of, declared.setup.Land.Land}
-use Rattle.sim_system.specs.declared.note.Note.{Note, TheVariants.Aimed, TheVariants.Born, TheVariants.Gone, TheVariants.Moved, TheVariants.Owned}
+use Rattle.{sim_base.specs.{declared.setup.Land.Land, Rows.size_of}, sim_ground.specs.{declared.opened.Opened.Opened, Layers.AreLayersOf}}
+use Rattle.sim_system.specs.declared.{fact.Fact.Fact, note.Note.{Note, TheVariants.{Aimed, Born, Gone, Moved, Owned}}}
+use Rattle.std.specs.Prelude.{Bool, false, is_some, List, Option, Some, ◌≡◌}
 
 -- the size is that of the land, and the layers are those of the facts
 pub record IsOpened (land : Land) (facts : List Fact) (o : Opened) : Type 0 where

@@ -7,10 +7,9 @@ ghost use Rattle.sim_ground.specs.Closing.{in_row, in_window, LiesOn};
 ghost use Rattle.sim_ground.specs.Layers.{AreAtMost, AreLayersOf, AreOpenWhereNone, layers_at, LayersTurn, MayChange, MayStep, most_layers, part_covers, Steps};
 
 use crate::window::{Window, window_of};
-use sim_base::{Cell, Land, OutOfMemory, Rect};
+use sim_base::{Cell, Global, Land, OutOfMemory, Rect};
 use sim_grid::Grid;
 use sim_system::Fact;
-use std::alloc::Global;
 
 /// The layers over each cell by z, then x, and the cells that are open.
 #[derive(Drop)]

@@ -8,9 +8,8 @@ ghost use Rattle.sim_ground.specs.{Covering.MayDraw, Opening.IsOpened};
 use crate::opened::Opened;
 use crate::rooms::Rooms;
 use crate::same::{are_same_facts, is_same_land};
-use sim_base::{Land, OutOfMemory};
+use sim_base::{Global, Land, OutOfMemory};
 use sim_system::Fact;
-use std::alloc::Global;
 
 /// A land, its obstructions by id, and what was drawn of them. It is plain data.
 #[derive(Drop)]

@@ -1,18 +1,16 @@
 //! The labels of the open cells where a rectangle came or went: those of its cells alone are changed, if that is enough.
 
-ghost use Rattle.std.specs.Prelude.{[], IfOk, OnOk, ◌<◌, ◌≡◌};
-ghost use Rattle.sim_base.specs.{Commands.rect_covers, Places.IsOnGround, Places.covers, Places.same_cell};
-ghost use Rattle.sim_ground.specs.Mending.{MayMend, MayOpen, is_turned as was_turned};
-ghost use Rattle.sim_ground.specs.{Closing.LiesOn, Closing.in_row, Layers.part_covers, Mending.AddsTurned, Mending.AreMended, Mending.MayClose};
-ghost use Rattle.sim_search.specs.Floods.{label_in};
+ghost use Rattle.sim_base.specs.{Commands.rect_covers, Places.{covers, IsOnGround, same_cell}};
+ghost use Rattle.sim_ground.specs.{Closing.{in_row, LiesOn}, Layers.part_covers};
+ghost use Rattle.{sim_ground.specs.Mending.{AddsTurned, AreMended, is_turned as was_turned, MayClose, MayMend, MayOpen}, sim_search.specs.Floods.label_in};
+ghost use Rattle.std.specs.Prelude.{IfOk, OnOk, [], ◌<◌, ◌≡◌};
 
 use crate::window::{Window, window_of};
-use sim_base::{Cell, OutOfMemory, Rect};
+use sim_base::{Cell, Global, OutOfMemory, Rect};
 use sim_grid::Grid;
 use sim_path::Labels;
 use sim_search::{mend_closed, mend_opened};
 use sim_system::Fact;
-use std::alloc::Global;
 
 // Whether the cell was closed or opened since it was labelled.
 fn is_turned(labels: &Labels, grid: &Grid, cell: Cell) -> bool

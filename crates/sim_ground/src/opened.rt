@@ -2,17 +2,15 @@
 //! closed or opened a cell, the labels of these cells alone are changed if no other changes by that, and else all are made anew.
 //! They serve every ask until the next note does.
 
+ghost use Rattle.{sim_base.specs.Rows.size_of, sim_grid.specs.Grids.field_of_grid, sim_ground.specs.{Covering.MayDraw, Layers.{AreAtMost, AreLayersOf}}};
+ghost use Rattle.{sim_ground.specs.Layers.{LayersTurn, MayChange, most_layers, no_part, part_covers}, sim_search.specs.Floods.{AreLabels, label_in}};
 ghost use Rattle.std.specs.Prelude.{false, IfOk, OnErr, OnOk, ◌≡◌};
-ghost use Rattle.sim_ground.specs.Layers.{AreAtMost, AreLayersOf, LayersTurn, MayChange, most_layers, no_part, part_covers};
-ghost use Rattle.sim_search.specs.Floods.{label_in};
-ghost use Rattle.{sim_base.specs.Rows.size_of, sim_grid.specs.Grids.field_of_grid, sim_ground.specs.Covering.MayDraw, sim_search.specs.Floods.AreLabels};
 
 use crate::cover::Cover;
 use crate::mended::are_mended;
-use sim_base::{Land, OutOfMemory};
+use sim_base::{Global, Land, OutOfMemory};
 use sim_path::{Labels, labels_of};
 use sim_system::Fact;
-use std::alloc::Global;
 
 /// The layers and the open cells of a land with its obstructions, and the labels of their regions.
 #[derive(Drop)]

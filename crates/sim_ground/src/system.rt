@@ -10,11 +10,10 @@ use crate::opened::Opened;
 use crate::rooms::{Lent, Rooms};
 use crate::spot::nearest;
 use crate::way::way_over;
-use sim_base::{Land, OutOfMemory};
+use sim_base::{Global, Land, OutOfMemory};
 use sim_fact_lists::{Kept, id_of, part_after};
 use sim_path::Labels;
 use sim_system::{Answer, Ask, Fact, Kind, Note, System};
-use std::alloc::Global;
 use std::rc::Rc;
 
 /// Keeps the rectangle of each entity that is an obstruction, which cells are open, and the rooms of searches.

@@ -6,9 +6,8 @@ ghost use Rattle.{sim_base.specs.Places.is_inside, sim_base.specs.Ways.way_of, s
 
 use crate::opened::Opened;
 use crate::rooms::Rooms;
-use sim_base::{OutOfMemory, Point};
+use sim_base::{Global, OutOfMemory, Point};
 use sim_system::Way;
-use std::alloc::Global;
 
 /// The way from a point to another over the open cells of a grid.
 pub fn way_over(

@@ -1,14 +1,13 @@
 -- What a client hears without memory.
 use Rattle.sim_plain.specs.declared.message.DownOf.TheVariants as down
 use Rattle.sim_plain.specs.declared.message.UpOf.TheVariants as up
-use Rattle.sim_base.specs.{Limits.HasFewIds, Limits.IsSetup, Limits.IsValid, Spelling.spelling, Spelling.u32_bytes, declared.command.Command.Command}
-use Rattle.sim_client.specs.{ClientWords.Answers, ClientWords.NeedsNoMemory, Lives.Told, Lives.says_of, declared.did.Did.Did, declared.did.Did.TheVariants.Done}
-use Rattle.sim_held.proofs.Common.{Option, orders, refl, Some, subst, sym, true, ℕ, ◌++◌, ◌<◌, ◌∙◌, ◌∷◌, ◌≡◌}
-use Rattle.sim_held.proofs.Common.{[], Act, All, All-cons, All-nil, arith, Bool, false, hears, if◌then◌else◌, IsSmallUp, length, Life, List, None, Ok, On}
-use Rattle.{sim_base.specs.declared.setup.Setup.Setup, sim_client.proofs.Small.orders_small, sim_client.proofs.Spelled.states_are_short}
-use Rattle.{sim_client.specs.declared.did.Did.TheVariants.Idle, sim_held.specs.Clients.said_by, sim_held.specs.Hearing.brings_state, sim_plain.specs.Server.put}
-use Rattle.{sim_plain_session.specs.Pasts.is_client, sim_plain_session.specs.Players.Player, sim_wire.specs.Reading.IsDownFrame}
-use Rattle.{sim_wire.specs.Reading.down_frame, std.specs.Prelude.nat_eq, std.specs.Prelude.nat_lt, std.specs.Prelude.slice_index_or, std.specs.Prelude.◌&&◌}
+use Rattle.sim_base.specs.{declared.{command.Command.Command, setup.Setup.Setup}, Limits.{HasFewIds, IsSetup, IsValid}, Spelling.{spelling, u32_bytes}}
+use Rattle.sim_client.proofs.{Small.orders_small, Spelled.states_are_short}
+use Rattle.sim_client.specs.{ClientWords.{Answers, NeedsNoMemory}, declared.did.Did.{Did, TheVariants.{Done, Idle}}, Lives.{says_of, Told}}
+use Rattle.sim_held.proofs.Common.{Act, All, All-cons, All-nil, arith, Bool, false, hears, if◌then◌else◌, IsSmallUp, length, Life, List, None, Ok, On, Option}
+use Rattle.sim_held.{proofs.Common.{orders, refl, Some, subst, sym, true, ℕ, [], ◌++◌, ◌<◌, ◌∙◌, ◌∷◌, ◌≡◌}, specs.{Clients.said_by, Hearing.brings_state}}
+use Rattle.{sim_plain.specs.Server.put, sim_plain_session.specs.{Pasts.is_client, Players.Player}, sim_wire.specs.Reading.{down_frame, IsDownFrame}}
+use Rattle.std.specs.Prelude.{nat_eq, nat_lt, slice_index_or, ◌&&◌}
 
 -- ---- the tag of a frame
 

@@ -1,9 +1,8 @@
 -- Turns that a client plays one behind another.
+use Rattle.{sim_base.specs.declared.setup.Setup.Setup, sim_client.specs.Lives.{Joining, Off, On, played, told}}
 use Rattle.sim_held.proofs.Common.{Act, ap, append-nil, append_assoc, arith, Bool, cases_eq, false, flat_map-append, frames_of, if◌then◌else◌, inl, inr, Life}
 use Rattle.sim_held.proofs.Common.{List, None, Ok, Option, plays, refl, Some, subst, suc, sym, true, up_frame, zero, ℕ, ◌++◌, ◌+◌, ◌∙◌, ◌≡◌, ◌≤◌, ◌⊎◌}
-use Rattle.sim_held.specs.Clients.{goes_on, may_run, PlaysOnce, Ran, RanOn, Run, runs}
-use Rattle.{sim_base.specs.declared.setup.Setup.Setup, sim_client.specs.Lives.Joining, sim_client.specs.Lives.Off, sim_client.specs.Lives.On}
-use Rattle.{sim_client.specs.Lives.played, sim_client.specs.Lives.told, std.proofs.lemmas.Bool.false≢true}
+use Rattle.{sim_held.specs.Clients.{goes_on, may_run, PlaysOnce, Ran, RanOn, Run, runs}, std.proofs.lemmas.Bool.false≢true}
 
 -- where there is no next turn, a longer run is the same
 pub runs_rest : (setup : Setup) (n : ℕ) (life : Life) → plays setup (runs setup n life).life ≡ None → (m : ℕ) → n ≤ m → runs setup m life ≡ runs setup n life

@@ -1,12 +1,10 @@
 -- What a server that is held comes to, in the words of its callers.
-use Rattle.sim_base.specs.declared.memory.OutOfMemory.{OutOfMemory}
-use Rattle.sim_held.proofs.Common.{Result, subst, sym, told_to, true, ℕ, ◌++◌, ◌<◌, ◌∙◌, ◌∷◌, ◌≡◌, ◌≤◌}
-use Rattle.sim_held.proofs.Common.{[], All, All-head, All-tail, ap, arith, Bool, cond-false, DownOf, false, if◌then◌else◌, List, ne_eqb, Ok, PostOf, refl}
-use Rattle.sim_held.specs.Servers.{AreSmall, CutsOff, Hears, is_client, IsReady, waiting, WaitsForClients}
+use Rattle.{sim_base.specs.declared.memory.OutOfMemory.OutOfMemory, sim_held.proofs.Common.{All, All-head, All-tail, ap, arith, Bool, cond-false, DownOf}}
+use Rattle.sim_held.proofs.Common.{false, if◌then◌else◌, List, ne_eqb, Ok, PostOf, refl, Result, subst, sym, told_to, true, ℕ, [], ◌++◌, ◌<◌, ◌∙◌, ◌∷◌, ◌≡◌}
+use Rattle.sim_held.{proofs.Common.◌≤◌, specs.Servers.{AreSmall, CutsOff, Hears, is_client, IsReady, waiting, WaitsForClients}}
 use Rattle.sim_pipes.proofs.Telling.{clients_are_told, makes_rules, makes_small, told_each}
-use Rattle.sim_plain.specs.{Messages.Arrival, Messages.Cut, Server.posts, Server.posts_of, declared.rules.Rules.Rules}
-use Rattle.sim_server.specs.Standing.{IsSmallArrival, Makes, server_of, View}
-use Rattle.std.{proofs.Common.◌==◌, specs.Prelude.nat_le, specs.Prelude.nat_lt, specs.Prelude.◌&&◌}
+use Rattle.sim_plain.specs.{declared.rules.Rules.Rules, Messages.{Arrival, Cut}, Server.{posts, posts_of}}
+use Rattle.{sim_server.specs.Standing.{IsSmallArrival, Makes, server_of, View}, std.{proofs.Common.◌==◌, specs.Prelude.{nat_le, nat_lt, ◌&&◌}}}
 
 abbrev Bytes : Type 0
 Bytes = List ℕ

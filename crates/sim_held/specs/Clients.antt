@@ -2,16 +2,14 @@
 use Rattle.sim_held.specs.declared.stage.Stage.TheVariants as stage
 use Rattle.sim_held.specs.declared.stage.Went.TheVariants as went
 use Rattle.sim_client.specs.declared.did.Did.TheVariants as did
-use Rattle.sim_base.specs.declared.{command.Command.Command, command.PlayerCommand.PlayerCommand, memory.OutOfMemory.OutOfMemory, setup.Setup.Setup}
-use Rattle.sim_base.specs.{Limits.IsFrom, Limits.IsSetup, Limits.IsValid, declared.state.State.State}
-use Rattle.sim_client.specs.Lives.{Off, On, Said, Told, hears, joins, may_play, orders, plays, starts}
-use Rattle.sim_client.specs.{ClientWords.LoadsFrom, ClientWords.NeedsNoMemory, ClientWords.may_load, ClientWords.state_of, Lives.Act, Lives.Joining, Lives.Life}
-use Rattle.sim_client.specs.{StageWords.AreByPlayers, StageWords.player_at, declared.did.Did.Did, declared.stage.Seat.Seat}
-use Rattle.sim_held.specs.declared.{playing.Playing.Playing, stage.Stage.Stage, stage.Went.Went}
-use Rattle.sim_json.specs.{Commands.command_of, Commands.next_or, Values.list_of, Values.value_of}
-use Rattle.std.specs.Prelude.{[], All, Bool, Err, false, IfOk, if◌then◌else◌, IsOk, List, None, Ok, Option, option_map, Result, Some, suc, true, zero, ℕ, ◌++◌}
-use Rattle.std.specs.{List.flat_map, Prelude.◌<◌, Prelude.◌≡◌, Prelude.◌≤◌, Str.is_utf8}
-use Rattle.{sim_laws.specs.TurnLaws.IsOrderOf, sim_wire.specs.Memory.down_carries, sim_wire.specs.Reading.IsDownFrame, sim_wire.specs.Reading.up_frame}
+use Rattle.sim_base.specs.declared.{command.{Command.Command, PlayerCommand.PlayerCommand}, memory.OutOfMemory.OutOfMemory, setup.Setup.Setup}
+use Rattle.sim_base.specs.{declared.state.State.State, Limits.{IsFrom, IsSetup, IsValid}}
+use Rattle.sim_client.specs.{ClientWords.{LoadsFrom, may_load, NeedsNoMemory, state_of}, declared.{did.Did.Did, stage.Seat.Seat}, Lives.Act}
+use Rattle.sim_client.specs.{Lives.{hears, Joining, joins, Life, may_play, Off, On, orders, plays, Said, starts, Told}, StageWords.{AreByPlayers, player_at}}
+use Rattle.sim_held.specs.declared.{playing.Playing.Playing, stage.{Stage.Stage, Went.Went}}
+use Rattle.{sim_json.specs.{Commands.{command_of, next_or}, Values.{list_of, value_of}}, sim_laws.specs.TurnLaws.IsOrderOf}
+use Rattle.{sim_wire.specs.{Memory.down_carries, Reading.{IsDownFrame, up_frame}}, std.specs.{List.flat_map, Prelude.{All, Bool, Err, false, IfOk}}}
+use Rattle.std.specs.{Prelude.{if◌then◌else◌, IsOk, List, None, Ok, Option, option_map, Result, Some, suc, true, zero, ℕ, [], ◌++◌, ◌<◌, ◌≡◌, ◌≤◌}, Str.is_utf8}
 
 -- a client: its match, the number of its player, whether it is off, joining or on, and the bytes that wait for the server
 pub record ClientView : Type 0 where

@@ -1,9 +1,8 @@
 -- A match that is held in memory, and what a call makes of it.
 use Rattle.sim_embed.specs.declared.refused.Refused.TheVariants as cause
-use Rattle.sim_base.specs.declared.{memory.OutOfMemory.OutOfMemory, setup.Setup.Setup, state.State.State}
-use Rattle.sim_base.specs.{Limits.IsSetup, Limits.IsValid, Turn.from, Turn.own_turns, Turn.turn, declared.command.PlayerCommand.PlayerCommand}
-use Rattle.std.specs.Prelude.{Err, false, IfErr, List, min, Ok, OnErr, OnOk, Result, true, ℕ, ◌-◌, ◌<◌, ◌≡◌, ◌≤◌}
-use Rattle.{sim_embed.specs.Causes.orders_of, sim_embed.specs.declared.refused.Refused.Refused, std.specs.Str.is_utf8}
+use Rattle.sim_base.specs.declared.{command.PlayerCommand.PlayerCommand, memory.OutOfMemory.OutOfMemory, setup.Setup.Setup, state.State.State}
+use Rattle.{sim_base.specs.{Limits.{IsSetup, IsValid}, Turn.{from, own_turns, turn}}, sim_embed.specs.{Causes.orders_of, declared.refused.Refused.Refused}}
+use Rattle.std.specs.{Prelude.{Err, false, IfErr, List, min, Ok, OnErr, OnOk, Result, true, ℕ, ◌-◌, ◌<◌, ◌≡◌, ◌≤◌}, Str.is_utf8}
 
 -- the match, and the state to which it has come
 pub record GameView : Type 0 where

@@ -1,6 +1,5 @@
 -- What a client hears of which it need not know the bytes that are carried.
-use Rattle.std.specs.Prelude.{Bool, true, false, not}
-use Rattle.sim_client.specs.Lives.{Joining, Life, Off, On, Told}
+use Rattle.{sim_client.specs.Lives.{Joining, Life, Off, On, Told}, std.specs.Prelude.{Bool, false, not, true}}
 use Rattle.sim_plain.specs.declared.message.DownOf.TheVariants as down
 
 -- a message brings the bytes of a state

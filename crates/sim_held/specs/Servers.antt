@@ -1,12 +1,10 @@
 -- What a server that is held is to its callers, and what a call makes of it.
 use Rattle.sim_held.specs.declared.stage.Went.TheVariants as went
-use Rattle.sim_plain.specs.{Messages.Arrival, Messages.Cut, Messages.Heard, Server.heard, Server.posts, declared.message.DownOf.DownOf}
-use Rattle.std.specs.Prelude.{[], All, Bool, Err, false, if◌then◌else◌, List, nat_le, nat_lt, None, Ok, Option, Result, Some, true, ℕ, ◌&&◌, ◌++◌, ◌<◌, ◌==◌}
-use Rattle.{sim_base.specs.declared.memory.OutOfMemory.OutOfMemory, sim_held.specs.declared.stage.Went.TheVariants.Idle, sim_server.specs.Standing.StandsFor}
-use Rattle.{sim_base.specs.declared.setup.Setup.Setup, sim_plain.specs.declared.message.PostOf.PostOf, sim_plain.specs.declared.message.UpOf.UpOf}
-use Rattle.{sim_held.specs.declared.stage.Went.Went, sim_server.specs.Standing.IsSmallServer, sim_server.specs.Standing.server_of, std.specs.List.flat_map}
-use Rattle.{sim_pipes.specs.Posts.told_to, std.specs.Prelude.◌∷◌, std.specs.Prelude.◌≡◌, std.specs.Prelude.◌≤◌}
-use Rattle.{sim_server.specs.Standing.View, sim_wire.specs.Reading.IsSmallDown, sim_wire.specs.Reading.IsUpFrame, sim_wire.specs.Reading.down_frame}
+use Rattle.{sim_base.specs.declared.{memory.OutOfMemory.OutOfMemory, setup.Setup.Setup}, sim_held.specs.declared.stage.Went.{TheVariants.Idle, Went}}
+use Rattle.{sim_pipes.specs.Posts.told_to, sim_plain.specs.{declared.message.{DownOf.DownOf, PostOf.PostOf, UpOf.UpOf}, Messages.{Arrival, Cut, Heard}}}
+use Rattle.{sim_plain.specs.Server.{heard, posts}, sim_server.specs.Standing.{IsSmallServer, server_of, StandsFor, View}}
+use Rattle.{sim_wire.specs.Reading.{down_frame, IsSmallDown, IsUpFrame}, std.specs.{List.flat_map, Prelude.{All, Bool, Err, false}}}
+use Rattle.std.specs.Prelude.{if◌then◌else◌, List, nat_le, nat_lt, None, Ok, Option, Result, Some, true, ℕ, [], ◌&&◌, ◌++◌, ◌<◌, ◌==◌, ◌∷◌, ◌≡◌, ◌≤◌}
 
 -- the server, and what it has said to clients that have not taken it yet: one list for each arrival, the oldest first
 pub record ServerView : Type 0 where

@@ -8,10 +8,9 @@ ghost use Rattle.{sim_base.specs.Limits.HasFewIds, sim_base.specs.declared.setup
 
 use crate::outbox::Outbox;
 use crate::stage::{Stage, Went};
-use sim_base::{Command, OutOfMemory, Setup};
+use sim_base::{Command, Global, OutOfMemory, Setup};
 use sim_client::Did;
 use sim_wire::Up;
-use std::alloc::Global;
 
 /// What a client says goes behind all that waits.
 pub fn say(outbox: &mut Outbox, did: Did) -> Result<Went, OutOfMemory>

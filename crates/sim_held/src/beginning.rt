@@ -1,14 +1,12 @@
 //! The stage at which a client begins.
 
-ghost use Rattle.sim_base.specs.Limits.{IsSetup};
-ghost use Rattle.std.specs.Prelude.{◌≡◌, min, IfOk, if◌then◌else◌};
-ghost use Rattle.{sim_client.specs.Lives.Off, sim_client.specs.Lives.starts, sim_held.specs.Clients.IsStage, sim_held.specs.Clients.life_at};
+ghost use Rattle.{sim_base.specs.Limits.IsSetup, sim_client.specs.Lives.{Off, starts}, sim_held.specs.Clients.{IsStage, life_at}};
+ghost use Rattle.std.specs.Prelude.{IfOk, if◌then◌else◌, min, ◌≡◌};
 
 use crate::boards::first_state;
 use crate::stage::Stage;
-use sim_base::{OutOfMemory, Setup};
+use sim_base::{Global, OutOfMemory, Setup};
 use sim_client::begin;
-use std::alloc::Global;
 
 // How many turns are released at the start.
 fn first_done(setup: &Setup) -> u32

@@ -2,17 +2,16 @@
 //! body, since a function may hand out none. What the rooms of the ground hold lives on in whatever is held: the ground that was drawn, and
 //! what searches have kept.
 
+ghost use Rattle.sim_base.specs.{Limits.{IsSetup, IsValid}, Turn.{first_state as first_state_of, from, own_turns, turn as turn_by}};
+ghost use Rattle.{sim_board.specs.Boards.{setup_in, systems}, sim_embed.specs.Facts.CanTurn, sim_held.specs.Clients.{CanPlay, CanReach, HasRun, IsMade}};
+ghost use Rattle.{sim_held.specs.Clients.{IsSeated, life_of, RanOn, runs}, sim_system.specs.{Meanings.HaveKinds, RigWords.systems_of}};
 ghost use Rattle.std.specs.Prelude.{IfOk, OnOk, ◌-◌, ◌≡◌};
-ghost use Rattle.sim_base.specs.{Limits.IsSetup, Limits.IsValid, Turn.first_state as first_state_of, Turn.from, Turn.own_turns, Turn.turn as turn_by};
-ghost use Rattle.sim_held.specs.Clients.{CanReach, HasRun, IsMade, IsSeated, RanOn, life_of, runs};
-ghost use Rattle.sim_system.specs.{Meanings.HaveKinds, RigWords.systems_of};
-ghost use Rattle.{sim_board.specs.Boards.setup_in, sim_board.specs.Boards.systems, sim_embed.specs.Facts.CanTurn, sim_held.specs.Clients.CanPlay};
 
 use crate::copying::no_state;
 use crate::planning::planned;
 use crate::playing::Playing;
 use crate::turns::play_turns;
-use sim_base::{OutOfMemory, PlayerCommand, Setup, State};
+use sim_base::{Global, OutOfMemory, PlayerCommand, Setup, State};
 use sim_board::Board;
 use sim_census::Census;
 use sim_ground::{Contents, Ground, Rooms};
@@ -20,7 +19,6 @@ use sim_orders::{Handler, OrderTable, Planner};
 use sim_range::Range;
 use sim_system::{Rig, System};
 use sim_watch::Watch;
-use std::alloc::Global;
 use std::rc::Rc;
 
 // Rooms that hold what was kept. Without memory for them that is let go.

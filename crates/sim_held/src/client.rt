@@ -1,10 +1,9 @@
 //! A client that is held.
 
-ghost use Rattle.std.specs.Prelude.{[], IfErr, IfOk, map, option_copied, Some, string_bytes, ◌≡◌};
-ghost use Rattle.sim_held.specs.Clients.{done_of, HearsFrame, IsCutOff, IsNew, IsSame, Joins, life, LooksAt, LooksAtClient, Orders, Plays, released_of};
-ghost use Rattle.{sim_board.specs.Boards.state_in, sim_client.specs.ClientWords.is_joining, sim_client.specs.ClientWords.state_of};
-ghost use Rattle.{sim_client.specs.ClientWords.turn_of, sim_embed.specs.Bytes.OfMatch, sim_embed.specs.Causes.IsNoMatch, sim_embed.specs.Facts.IsStamp};
-ghost use Rattle.{sim_embed.specs.Facts.IsStored, sim_embed.specs.Facts.entity_of, sim_report.specs.Show.show_text};
+ghost use Rattle.{sim_board.specs.Boards.state_in, sim_client.specs.ClientWords.{is_joining, state_of, turn_of}, sim_embed.specs.Bytes.OfMatch};
+ghost use Rattle.{sim_embed.specs.{Causes.IsNoMatch, Facts.{entity_of, IsStamp, IsStored}}, sim_held.specs.Clients.{done_of, HearsFrame, IsCutOff, IsNew}};
+ghost use Rattle.{sim_held.specs.Clients.{IsSame, Joins, life, LooksAt, LooksAtClient, Orders, Plays, released_of}, sim_report.specs.Show.show_text};
+ghost use Rattle.std.specs.Prelude.{IfErr, IfOk, map, option_copied, Some, string_bytes, [], ◌≡◌};
 
 use crate::acting::{join, settle};
 use crate::beginning::first_stage;
@@ -13,10 +12,9 @@ use crate::outbox::Outbox;
 use crate::playing::Playing;
 use crate::reading::{hear_frame, order};
 use crate::stage::{Stage, Went};
-use sim_base::{OutOfMemory, Setup, State};
+use sim_base::{Global, OutOfMemory, Setup, State};
 use sim_embed::{Entity, Refused, Stamp, Stored, entities_of, match_of, text_of};
 use sim_ground::Contents;
-use std::alloc::Global;
 use std::marker::Model;
 
 /// A client of a match for one of its players: off, waiting for a state, or on, with the bytes that wait to be sent to the server, and

@@ -2,8 +2,7 @@
 
 ghost use Rattle.std.specs.Prelude.{◌≡◌, IfOk};
 
-use sim_base::{Items, Motion, OutOfMemory, Row, Rows, State};
-use std::alloc::Global;
+use sim_base::{Global, Items, Motion, OutOfMemory, Row, Rows, State};
 
 fn motion_of(motion: &Option<Motion>) -> Result<Option<Motion>, OutOfMemory>
     ensures { IfOk result (λ copied. copied ≡ motion.now) }

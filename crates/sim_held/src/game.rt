@@ -1,18 +1,16 @@
 //! A match that is held in memory, for a game without a network and for replays.
 
+ghost use Rattle.{sim_base.specs.Turn.first_state as first_state_of, sim_embed.specs.{Bytes.{OfMatch, OfState}, Causes.{IsNoMatch, IsNoStateOf}}};
+ghost use Rattle.{sim_embed.specs.Facts.{entity_of, IsStamp, IsStored}, sim_held.specs.Games.{PlaysGame, PlaysOwnTurns}, sim_report.specs.Show.show_text};
 ghost use Rattle.std.specs.Prelude.{IfErr, IfOk, map, string_bytes, ◌≡◌};
-ghost use Rattle.sim_embed.specs.{Causes.IsNoMatch, Causes.IsNoStateOf, Facts.IsStamp, Facts.IsStored, Facts.entity_of};
-ghost use Rattle.{sim_base.specs.Turn.first_state as first_state_of, sim_embed.specs.Bytes.OfMatch, sim_embed.specs.Bytes.OfState};
-ghost use Rattle.{sim_held.specs.Games.PlaysGame, sim_held.specs.Games.PlaysOwnTurns, sim_report.specs.Show.show_text};
 
 use crate::boards::{after_own, after_turn, first_state};
 use crate::copying::copy_of;
-use sim_base::{OutOfMemory, Setup, State};
+use sim_base::{Global, OutOfMemory, Setup, State};
 use sim_embed::{
     Entity, Refused, Stamp, Stored, commands_of, entities_of, match_of, state_of, text_of,
 };
 use sim_ground::Contents;
-use std::alloc::Global;
 use std::marker::Model;
 
 /// A match, and the state to which it has come, with what the rooms of its ground held at the end of the last call. After want of memory

@@ -1,19 +1,17 @@
 //! What a client that is held hears: over its stage, its outbox and its match.
 
-ghost use Rattle.std.specs.Prelude.{false, IfOk, IsOk, None, Ok, OnOk, Option, ◌≡◌};
-ghost use Rattle.sim_base.specs.{Limits.IsSetup, declared.setup.Setup.Setup as AnySetup, declared.state.State.State as AnyState};
-ghost use Rattle.sim_client.specs.ClientWords.{LoadsAt, LoadsFrom, may_load, NeedsNoMemory};
-ghost use Rattle.sim_client.specs.Lives.{hears, Joining, loads, refused};
+ghost use Rattle.sim_base.specs.{declared.{setup.Setup.Setup as AnySetup, state.State.State as AnyState}, Limits.IsSetup};
+ghost use Rattle.sim_client.specs.{ClientWords.{LoadsAt, LoadsFrom, may_load, NeedsNoMemory}, Lives.{hears, Joining, loads, refused}};
 ghost use Rattle.sim_held.specs.Clients.{Goes, GoesSilently, IsOn, IsPlaced, IsStage, life_at};
+ghost use Rattle.std.specs.Prelude.{false, IfOk, IsOk, None, Ok, OnOk, Option, ◌≡◌};
 
 use crate::acting::say;
 use crate::outbox::Outbox;
 use crate::stage::{Stage, Went};
-use sim_base::{OutOfMemory, Setup};
+use sim_base::{Global, OutOfMemory, Setup};
 use sim_client::{begin, heed};
 use sim_codec::{StateFault, load};
 use sim_wire::Down;
-use std::alloc::Global;
 
 /// Hears what the server says.
 pub fn hear(

@@ -3,9 +3,8 @@
 ghost use Rattle.std.specs.{List.flat_map, Prelude.All, Prelude.IsOk, Prelude.OnOk, Prelude.[], Prelude.◌++◌, Prelude.◌≡◌};
 ghost use Rattle.{sim_held.specs.Clients.frames_of, sim_wire.specs.Reading.IsSmallUp, sim_wire.specs.Reading.up_frame};
 
-use sim_base::OutOfMemory;
+use sim_base::{Global, OutOfMemory};
 use sim_wire::{Up, frame_up};
-use std::alloc::Global;
 use std::marker::Model;
 
 /// Bytes that wait to be sent, which contracts see as their list.

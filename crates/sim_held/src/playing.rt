@@ -5,9 +5,8 @@ ghost use Rattle.sim_held.specs.{Clients.TakesOut, Clients.life_at, Clients.may_
 
 use crate::outbox::Outbox;
 use crate::stage::Stage;
-use sim_base::{Setup, State};
+use sim_base::{Global, Setup, State};
 use sim_client::Seat;
-use std::alloc::Global;
 
 /// The state of a client that is on, what it keeps beside, and what waits to be sent.
 #[derive(Drop)]

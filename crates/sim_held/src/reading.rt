@@ -1,20 +1,18 @@
 //! Bytes that a client is given: a command that its player gives, and a frame of the server.
 
-ghost use Rattle.std.specs.Prelude.{false, IfOk, IfSome, IsErr, IsOk, None, Ok, OnOk, Option, option_map, true, ◌≡◌};
-ghost use Rattle.std.specs.Str.{is_utf8};
-ghost use Rattle.sim_client.specs.{ClientWords.LoadsFrom, ClientWords.NeedsNoMemory, ClientWords.may_load, Lives.Told, Lives.hears, Lives.orders};
-ghost use Rattle.sim_held.specs.Clients.{command_in, Goes, Heeds, IsPlaced, IsStage, life_at, Stays};
-ghost use Rattle.{serde_json.specs.View.view, sim_base.specs.declared.state.State.State as AnyState, sim_held.specs.Hearing.brings_state as brings_state_by};
-ghost use Rattle.{sim_base.specs.Limits.HasFewIds, sim_held.specs.Hearing.goes_by, sim_wire.specs.Memory.down_carries, sim_wire.specs.Reading.IsDownFrame};
+ghost use Rattle.{serde_json.specs.View.view, sim_base.specs.{declared.state.State.State as AnyState, Limits.HasFewIds}};
+ghost use Rattle.sim_client.specs.{ClientWords.{LoadsFrom, may_load, NeedsNoMemory}, Lives.{hears, orders, Told}};
+ghost use Rattle.sim_held.specs.{Clients.{command_in, Goes, Heeds, IsPlaced, IsStage, life_at, Stays}, Hearing.{brings_state as brings_state_by, goes_by}};
+ghost use Rattle.sim_wire.specs.{Memory.down_carries, Reading.IsDownFrame};
+ghost use Rattle.std.specs.{Prelude.{false, IfOk, IfSome, IsErr, IsOk, None, Ok, OnOk, Option, option_map, true, ◌≡◌}, Str.is_utf8};
 
 use crate::acting::give;
 use crate::hearing::hear;
 use crate::outbox::Outbox;
 use crate::stage::{Stage, Went};
-use sim_base::{Command, OutOfMemory, Setup};
+use sim_base::{Command, Global, OutOfMemory, Setup};
 use sim_json::{list_of, value_of};
 use sim_wire::{WireFault, unframe_down};
-use std::alloc::Global;
 
 // The command that bytes spell, or None where they spell none.
 fn command_of(alloc: Global, bytes: &[u8]) -> Result<Option<Command>, OutOfMemory>

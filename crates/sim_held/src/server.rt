@@ -7,11 +7,10 @@ ghost use Rattle.{sim_server.specs.Standing.server_of, sim_wire.specs.Reading.Is
 
 use crate::stage::Went;
 use crate::waiting::{frames_to, keep, leave};
-use sim_base::OutOfMemory;
+use sim_base::{Global, OutOfMemory};
 use sim_embed::{Refused, match_of};
 use sim_server::{Posts, Server};
 use sim_wire::{Up, WireFault, unframe_up};
-use std::alloc::Global;
 use std::marker::Model;
 
 /// A turn server, and what it has said to clients that have not taken it yet. After want of memory it is as it was.

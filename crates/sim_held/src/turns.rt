@@ -1,17 +1,15 @@
 //! The turns that a client plays on a board, with what it says of each in its outbox.
 
-ghost use Rattle.std.specs.Prelude.{All, IfOk, OnOk, ◌++◌, ◌≡◌};
-ghost use Rattle.sim_board.specs.Boards.{setup_in, state_in};
-ghost use Rattle.sim_client.specs.{Lives.On, Lives.plays, StageWords.IsPlaying, StageWords.player_at};
+ghost use Rattle.{sim_board.specs.Boards.{setup_in, state_in}, sim_client.specs.{Lives.{On, plays}, StageWords.{IsPlaying, player_at}}};
 ghost use Rattle.sim_held.specs.Clients.{frames_of, goes_on, PlaysOnce, RanOn, runs};
+ghost use Rattle.std.specs.Prelude.{All, IfOk, OnOk, ◌++◌, ◌≡◌};
 
 use crate::playing::Playing;
-use sim_base::{OutOfMemory, Setup};
+use sim_base::{Global, OutOfMemory, Setup};
 use sim_board::Board;
 use sim_client::{Did, play};
 use sim_orders::OrderTable;
 use sim_system::System;
-use std::alloc::Global;
 
 // Plays the next turn where it is released, puts what is said of it into the outbox, and answers whether there was one.
 fn play_once(

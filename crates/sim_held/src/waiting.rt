@@ -1,15 +1,13 @@
 //! What waits for the clients of a server: the posts of each arrival, as they were made, until each client has taken its own. Frames are
 //! made as they are taken.
 
-ghost use Rattle.std.specs.List.{flat_map};
-ghost use Rattle.std.specs.Prelude.{[], All, filter, IfOk, if◌then◌else◌, IsOk, map, not, OnOk, vec_capacity, vec_len, ℕ, ◌++◌, ◌<◌, ◌==◌, ◌∷◌, ◌≡◌, ◌≤◌};
-ghost use Rattle.sim_held.specs.Servers.{AreSmall, WaitsForClients, frames_for, has_some as has_some_of, waiting};
-ghost use Rattle.{sim_pipes.specs.Posts.told_to, sim_server.specs.Standing.View, sim_wire.specs.Reading.IsSmallDown, sim_wire.specs.Reading.down_frame};
+ghost use Rattle.sim_held.specs.Servers.{AreSmall, frames_for, has_some as has_some_of, waiting, WaitsForClients};
+ghost use Rattle.{sim_pipes.specs.Posts.told_to, sim_server.specs.Standing.View, sim_wire.specs.Reading.{down_frame, IsSmallDown}, std.specs.List.flat_map};
+ghost use Rattle.std.specs.Prelude.{All, filter, IfOk, if◌then◌else◌, IsOk, map, not, OnOk, vec_capacity, vec_len, ℕ, [], ◌++◌, ◌<◌, ◌==◌, ◌∷◌, ◌≡◌, ◌≤◌};
 
-use sim_base::{Items, OutOfMemory};
+use sim_base::{Global, Items, OutOfMemory};
 use sim_server::{Post, Posts};
 use sim_wire::{Down, frame_down};
-use std::alloc::Global;
 
 fn push_frame(alloc: Global, out: &mut Vec<u8>, down: &Down) -> Result<(), OutOfMemory>
     requires { IsSmallDown down.now }

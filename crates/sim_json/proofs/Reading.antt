@@ -1,7 +1,6 @@
 -- What holds of the records of a list, from what holds of each.
-use Rattle.sim_json.specs.Commands.{IsLeast, next_or, numbered, records}
-use Rattle.std.proofs.Common.{[], All, ap, append_assoc, arith, Err, length, length-append, List, None, Ok, Option, refl, Some, subst, sym, ℕ, ◌++◌, ◌+◌, ◌∷◌}
-use Rattle.std.proofs.{Common.◌≡◌, lemmas.List.Elements.All-push, lemmas.List.append-nil, lemmas.List.length_push}
+use Rattle.{sim_json.specs.Commands.{IsLeast, next_or, numbered, records}, std.proofs.Common.{All, ap, append_assoc, arith, Err, length, length-append, List}}
+use Rattle.std.proofs.{Common.{None, Ok, Option, refl, Some, subst, sym, ℕ, [], ◌++◌, ◌+◌, ◌∷◌, ◌≡◌}, lemmas.List.{append-nil, Elements.All-push, length_push}}
 
 module _ {X D : Type 0} (read : List X → D → Option X) where
   with_item : (done : List X) (d : D) (ds : List D) (i : ℕ) (x : X) → read done d ≡ Some x → IsLeast read (done ++ x ∷ []) ds i → IsLeast read done (d ∷ ds) i

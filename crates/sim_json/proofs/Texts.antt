@@ -1,8 +1,7 @@
 -- What a reader of texts says, in the words of the definitions.
-use Rattle.std.{proofs.lemmas.Str.is_utf8-from_IsUtf8, proofs.lemmas.Str.IsUtf8-from_is_utf8, specs.Str.IsUtf8, specs.Str.is_utf8}
-use Rattle.std.proofs.Common.{◌≡◌, ℕ, Bool, true, false, List, [], ◌∷◌, map, if◌then◌else◌, None, Option, refl, ap}
-use Rattle.serde_json.specs.{Data.Data, Read.read, View.items_view, View.view, declared.value.Value.Value}
-use Rattle.sim_json.specs.Values.{listed, value_of}
+use Rattle.{serde_json.specs.{Data.Data, declared.value.Value.Value, Read.read, View.{items_view, view}}, sim_json.specs.Values.{listed, value_of}}
+use Rattle.std.proofs.Common.{ap, Bool, false, if◌then◌else◌, List, map, None, Option, refl, true, ℕ, [], ◌∷◌, ◌≡◌}
+use Rattle.std.{proofs.lemmas.Str.{is_utf8-from_IsUtf8, IsUtf8-from_is_utf8}, specs.Str.{is_utf8, IsUtf8}}
 
 -- bytes in UTF-8 have the value of the text that they are
 pub utf8_value : (bytes : List ℕ) → IsUtf8 bytes → value_of bytes ≡ read bytes

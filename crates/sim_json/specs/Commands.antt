@@ -1,9 +1,8 @@
 -- Commands as lists of JSON: a kind, and what follows it. Whether an id or a template is there is not asked here.
-use Rattle.sim_base.specs.declared.command.Command.TheVariants.{Attack, Delete, Place, Resign, Stop, Train, Walk}
-use Rattle.std.specs.Prelude.{[], Bool, codes, Err, false, if◌then◌else◌, is_some, length, List, nat_le, None, Ok, Option, option_and_then, option_map, Result}
-use Rattle.std.specs.{Prelude.Some, Prelude.ℕ, Prelude.◌&&◌, Prelude.◌++◌, Prelude.◌-◌, Prelude.◌^◌, Prelude.◌∷◌, Prelude.◌≡◌, Str.bytes_eq}
-use Rattle.{serde_json.specs.Data.Data, serde_json.specs.Find.as_str, sim_json.specs.Values.fixed, sim_json.specs.Values.list_of, sim_json.specs.Values.two}
-use Rattle.{sim_base.specs.declared.command.Command.Command, sim_base.specs.declared.place.Point.Point, sim_json.specs.Values.natural_in, std.specs.Prelude.◌+◌}
+use Rattle.{serde_json.specs.{Data.Data, Find.as_str}, sim_base.specs.declared.command.Command.{Command, TheVariants.{Attack, Delete, Place, Resign, Stop}}}
+use Rattle.{sim_base.specs.declared.{command.Command.TheVariants.{Train, Walk}, place.Point.Point}, sim_json.specs.Values.{fixed, list_of, natural_in, two}}
+use Rattle.std.specs.Prelude.{Bool, codes, Err, false, if◌then◌else◌, is_some, length, List, nat_le, None, Ok, Option, option_and_then, option_map, Result}
+use Rattle.std.specs.{Prelude.{Some, ℕ, [], ◌&&◌, ◌++◌, ◌+◌, ◌-◌, ◌^◌, ◌∷◌, ◌≡◌}, Str.bytes_eq}
 
 -- Lists of records. An item is read beside the records of the items before it; what it may not be beside them, it is
 -- refused for.

@@ -1,7 +1,6 @@
 -- Which keys an object has. A key that a text has twice is there once, with its last value.
-use Rattle.std.specs.{Borrow.Bor, List.list_any, Str.bytes_eq}
-use Rattle.std.specs.Prelude.{ℕ, Bool, false, not, ◌||◌, List, map, Some, None, Option}
-use Rattle.serde_json.specs.{Data.Data, Data.member, Data.Members, Data.no_members, Find.as_object}
+use Rattle.serde_json.specs.{Data.{Data, member, Members, no_members}, Find.as_object}
+use Rattle.std.specs.{Borrow.Bor, List.list_any, Prelude.{Bool, false, List, map, None, not, Option, Some, ℕ, ◌||◌}, Str.bytes_eq}
 
 -- a text is one of these
 abbrev pub among : List ℕ → List (List ℕ) → Bool

@@ -1,9 +1,8 @@
 -- Values of JSON: what a text stands for, and the lists, texts and whole numbers in it.
-use Rattle.serde_json.specs.{Data.Data, Data.Items, Data.item, Data.no_items, Find.as_array, Find.as_i64, Find.as_integer, Find.as_number, Find.as_str}
-use Rattle.serde_json.specs.{Find.as_u64, Find.get, Read.read}
-use Rattle.sim_base.specs.{NumberText.in_range, NumberText.number_of, Places.unit}
-use Rattle.std.specs.Prelude.{[], Bool, false, if◌then◌else◌, is_some, length, List, nat_le, None, Option, option_and_then, option_map, pos, Some, ℕ, ℤ, ◌&&◌}
-use Rattle.std.specs.{List.list_all, Prelude.◌*ℤ◌, Prelude.◌==◌, Prelude.◌∷◌, Str.is_utf8}
+use Rattle.serde_json.specs.{Data.{Data, item, Items, no_items}, Find.{as_array, as_i64, as_integer, as_number, as_str, as_u64, get}, Read.read}
+use Rattle.sim_base.specs.{NumberText.{in_range, number_of}, Places.unit}
+use Rattle.std.specs.{List.list_all, Prelude.{Bool, false, if◌then◌else◌, is_some, length, List, nat_le, None, Option, option_and_then, option_map, pos, Some}}
+use Rattle.std.specs.{Prelude.{ℕ, ℤ, [], ◌&&◌, ◌*ℤ◌, ◌==◌, ◌∷◌}, Str.is_utf8}
 
 -- the value of a text, where the bytes are UTF-8 and a text that has one
 abbrev pub value_of : List ℕ → Option Data

@@ -10,8 +10,7 @@ ghost use Rattle.{serde_json.specs.View.view, sim_base.specs.Limits.HasFewIds, s
 use crate::ids::{id_in, ids_of, template_in};
 use crate::{fixed, two};
 use serde_json::Value;
-use sim_base::{Command, OutOfMemory, Point};
-use std::alloc::Global;
+use sim_base::{Command, Global, OutOfMemory, Point};
 
 /// The command that a list spells, from its kind on, or None where it spells none.
 #[tactic(auto, unfolding(crate::specs::Commands::command_of, crate::specs::Commands::command_takes))]

@@ -6,8 +6,7 @@ ghost use Rattle.{serde_json.specs.View.view, sim_json.specs.Commands.template_i
 
 use crate::{list_of, natural_in};
 use serde_json::Value;
-use sim_base::{Ids, OutOfMemory};
-use std::alloc::Global;
+use sim_base::{Global, Ids, OutOfMemory};
 
 // A command names so many entities at most.
 const MOST: usize = 256;

@@ -1,8 +1,7 @@
 //! Which keys an object has, so that a file with a key too many is refused.
 
+ghost use Rattle.{serde_json.specs.View.{members_view, view}, sim_json.specs.Keys.{among, other_key as has_other_key, other_member, texts_of}};
 ghost use Rattle.std.specs.Prelude.{◌≡◌};
-ghost use Rattle.serde_json.specs.View.{members_view, view};
-ghost use Rattle.sim_json.specs.Keys.{among, other_key as has_other_key, other_member, texts_of};
 
 use serde_json::{Map, Value};
 

@@ -1,9 +1,8 @@
 //! Of which kind a value is. A file with a value of another kind is refused before any number in it is looked at.
 
-ghost use Rattle.std.specs.{List.list_all, Prelude.map, Prelude.◌≡◌};
-ghost use Rattle.serde_json.specs.{Find.get, View.view};
-ghost use Rattle.sim_json.specs.Values.{fits, is_list as is_list_data, is_row as is_row_data, is_row_of as is_row_of_data, is_table as is_table_data};
-ghost use Rattle.sim_json.specs.Values.{is_table_of as is_table_of_data, is_whole as is_whole_data};
+ghost use Rattle.{serde_json.specs.{Find.get, View.view}, sim_json.specs.Values.{fits, is_list as is_list_data, is_row as is_row_data}};
+ghost use Rattle.sim_json.specs.Values.{is_row_of as is_row_of_data, is_table as is_table_data, is_table_of as is_table_of_data, is_whole as is_whole_data};
+ghost use Rattle.std.specs.{List.list_all, Prelude.{map, ◌≡◌}};
 
 use crate::values::list_of;
 use serde_json::Value;

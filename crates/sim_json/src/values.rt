@@ -1,14 +1,12 @@
 //! Texts, lists and whole numbers of JSON. A reader answers None where the value is something else.
 
-ghost use Rattle.{serde_json.specs.Errors.IsMemory, serde_json.specs.Read.read, serde_json.specs.View.view, sim_json.specs.Values.value_of as value_of_bytes};
-ghost use Rattle.std.specs.Prelude.{◌≡◌, ◌<◌, ◌≤◌, false, map, length, IfSome, IfOk, IfErr, IsErr, None, option_map};
-ghost use Rattle.std.specs.Str.{is_utf8};
-ghost use Rattle.sim_json.specs.Values.{fixed as fixed_of, four as four_of, front_two as front_two_of, list_at as list_at_key, list_of as list_of_data};
-ghost use Rattle.sim_json.specs.Values.{metres as metres_of, natural as natural_of, natural_at as natural_at_key, natural_in as natural_within, two as two_of};
+ghost use Rattle.{serde_json.specs.{Errors.IsMemory, Read.read, View.view}, sim_json.specs.Values.{fixed as fixed_of, four as four_of}};
+ghost use Rattle.sim_json.specs.Values.{front_two as front_two_of, list_at as list_at_key, list_of as list_of_data, metres as metres_of, natural as natural_of};
+ghost use Rattle.sim_json.specs.Values.{natural_at as natural_at_key, natural_in as natural_within, two as two_of, value_of as value_of_bytes};
+ghost use Rattle.std.specs.{Prelude.{false, IfErr, IfOk, IfSome, IsErr, length, map, None, option_map, ◌<◌, ◌≡◌, ◌≤◌}, Str.is_utf8};
 
 use serde_json::{Category, Error, Value};
-use sim_base::{Fixed, OutOfMemory};
-use std::alloc::Global;
+use sim_base::{Fixed, Global, OutOfMemory};
 
 /// The value of a text in UTF-8, or None where the bytes are none.
 pub fn value_of(alloc: Global, bytes: &[u8]) -> Result<Option<Value>, OutOfMemory>

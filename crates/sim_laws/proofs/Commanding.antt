@@ -1,22 +1,21 @@
 -- Each command of a player of the match keeps a state valid.
-use Rattle.sim_base.specs.Turn.{after_walk, along, along_found, chasing, headed, moved_by, moved_row, same_point, toward, walked, Walked}
-use Rattle.sim_base.specs.{Commands.field_of, Commands.is_open, Rows.speed_of, Ways.Way, declared.command.Command.TheVariants.Walk, declared.template.Base.Base}
-use Rattle.sim_laws.proofs.Common.{Aim, All-cons, All-head, All-tail, and_from, cells_of, eqb-true, has_room, is_enemy, IsInside, list_any, ltb-true, waypoints}
-use Rattle.sim_laws.proofs.Common.{All, inl, inr, leb, ltb, map, pos, Row, suc, sym, ℕ, ℤ, ◌*◌, ◌+ℤ◌, ◌+◌, ◌-ℤ◌, ◌-◌, ◌/◌, ◌<◌, ◌==◌, ◌∙◌, ◌∷◌, ◌≡◌, ◌≤◌}
-use Rattle.sim_laws.proofs.Common.{All-map, All-nil, arith, arms_of, cell_of, Command, created, in_mask, is_near, is_some, IsFound, IsSetup, Template, with_new}
-use Rattle.sim_laws.proofs.Common.{Arms, commanded_by, first_points, is_placeable, IsValidMotion, option_and_then, slice_get_within, unsigned_abs, with_ordered}
-use Rattle.sim_laws.proofs.Common.{Attack, Delete, filter, IsState, IsTrail, le-leb, length, lt-ltb, Motion, mul-le, negsuc, reverse, size_of, stopped, trained}
-use Rattle.sim_laws.proofs.Common.{Bool, false, Field, Going, id_of, moved, Option, Place, Point, Resign, row_of, set_on, Setup, square, trains, way_of, ⊎_elim}
-use Rattle.sim_laws.proofs.Common.{Both, Cell, List, None, Size, Some, State, Still, Stop, Train, cond, ints, refl, root, sent, spot, subst, true, zero, ◌&&◌}
-use Rattle.sim_laws.proofs.Common.{[], All-weaker, cases_Bool, enemies_of, has_health, is_ordered, IsKnownRow, IsOnGround, IsTemplate, template_of, way_between}
-use Rattle.sim_laws.proofs.Common.{and_parts, ap, centre_of, cond_both, is_inside, is_within, IsValidRow, MatchBool, placed_on, same_cell, slice_get, target_of}
-use Rattle.sim_laws.proofs.Validity.{Has-of_filter, Stays, all_at, apart, found_row, has_health_of, known_row, mapped_is_state, same_row, with_new_is_valid}
-use Rattle.sim_laws.proofs.{Neighbours.Has, Neighbours.Has-of_cells_of, Removing.IsTarget, Removing.least_of-some, Removing.ordered_stays}
-use Rattle.sim_laws.proofs.{Removing.placed_stays, Removing.removed_all_is_state, Removing.same_stays, Rounds.way_of-is_way, Trips.walk-on}
-use Rattle.std.proofs.lemmas.{Bool.leb-false, List.Elements.All-take, List.Sorted.All-permutation, List.Sorted.IsPermutation-reverse}
-use Rattle.std.proofs.{Common.int_div, Common.length-take, Common.neg_ℤ, Common.◌*ℤ◌, Math.Nat.div-le_of_le-mul, Math.Nat.div-le_self, Math.Nat.mul_comm}
-use Rattle.{sim_base.proofs.GroundPoints.within-below, sim_laws.specs.WayLaws.InsideIsOnGround, sim_laws.specs.WayLaws.WayOfIsShort}
-use Rattle.{sim_laws.specs.WayLaws.WayOfStaysInside, std.proofs.lemmas.Option.get_or_from_slice_get, std.specs.Prelude.nat_le, std.specs.Prelude.nat_lt}
+use Rattle.sim_base.{proofs.GroundPoints.within-below, specs.{Commands.{field_of, is_open}, declared.{command.Command.TheVariants.Walk, template.Base.Base}}}
+use Rattle.sim_base.specs.{Rows.speed_of, Turn.{after_walk, along, along_found, chasing, headed, moved_by, moved_row, same_point, toward, Walked, walked}}
+use Rattle.{sim_base.specs.Ways.Way, sim_laws.proofs.Common.{Aim, All, All-cons, All-head, All-map, All-nil, All-tail, All-weaker, and_from, and_parts, ap}}
+use Rattle.sim_laws.proofs.Common.{arith, Arms, arms_of, Attack, Bool, Both, cases_Bool, Cell, cell_of, cells_of, centre_of, Command, commanded_by, cond}
+use Rattle.sim_laws.proofs.Common.{cond_both, created, Delete, enemies_of, eqb-true, false, Field, filter, first_points, Going, has_health, has_room, id_of}
+use Rattle.sim_laws.proofs.Common.{in_mask, inl, inr, ints, is_enemy, is_inside, is_near, is_ordered, is_placeable, is_some, is_within, IsFound, IsInside}
+use Rattle.sim_laws.proofs.Common.{IsKnownRow, IsOnGround, IsSetup, IsState, IsTemplate, IsTrail, IsValidMotion, IsValidRow, le-leb, leb, length, List}
+use Rattle.sim_laws.proofs.Common.{list_any, lt-ltb, ltb, ltb-true, map, MatchBool, Motion, moved, mul-le, negsuc, None, Option, option_and_then, Place}
+use Rattle.sim_laws.proofs.Common.{placed_on, Point, pos, refl, Resign, reverse, root, Row, row_of, same_cell, sent, set_on, Setup, Size, size_of, slice_get}
+use Rattle.sim_laws.proofs.Common.{slice_get_within, Some, spot, square, State, Still, Stop, stopped, subst, suc, sym, target_of, Template, template_of, Train}
+use Rattle.sim_laws.proofs.Common.{trained, trains, true, unsigned_abs, way_between, way_of, waypoints, with_new, with_ordered, zero, ℕ, ℤ, ⊎_elim, [], ◌&&◌}
+use Rattle.sim_laws.proofs.{Common.{◌*◌, ◌+ℤ◌, ◌+◌, ◌-ℤ◌, ◌-◌, ◌/◌, ◌<◌, ◌==◌, ◌∙◌, ◌∷◌, ◌≡◌, ◌≤◌}, Neighbours.{Has, Has-of_cells_of}, Removing.IsTarget}
+use Rattle.sim_laws.proofs.{Removing.{least_of-some, ordered_stays, placed_stays, removed_all_is_state, same_stays}, Rounds.way_of-is_way, Trips.walk-on}
+use Rattle.sim_laws.proofs.Validity.{all_at, apart, found_row, Has-of_filter, has_health_of, known_row, mapped_is_state, same_row, Stays, with_new_is_valid}
+use Rattle.{sim_laws.specs.WayLaws.{InsideIsOnGround, WayOfIsShort, WayOfStaysInside}, std.proofs.Common.{int_div, length-take, neg_ℤ, ◌*ℤ◌}}
+use Rattle.std.proofs.lemmas.{Bool.leb-false, List.{Elements.All-take, Sorted.{All-permutation, IsPermutation-reverse}}, Option.get_or_from_slice_get}
+use Rattle.std.{proofs.Math.Nat.{div-le_of_le-mul, div-le_self, mul_comm}, specs.Prelude.{nat_le, nat_lt}}
 
 -- a template of a known number is one of the match
 pub known_template : (setup : Setup) (number : ℕ) (t : Template) → IsSetup setup → slice_get setup.templates number ≡ Some t

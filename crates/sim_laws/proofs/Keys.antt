@@ -1,8 +1,7 @@
 -- Lists of numbers as keys: of two keys neither of which comes first, the two are one, and one that does not come first has no lesser first number.
-use Rattle.std.proofs.{Common.Equal, Common.Greater, Common.Less, Common.Ordering, lemmas.Map.Keys.ge_from_not_lt}
-use Rattle.std.specs.Cmp.Lexicographic.{same_text, slice_cmp, texts_ties}
-use Rattle.std.specs.Ordering.{is_eq, is_lt, nat_cmp, ordering_reverse, ordering_then}
-use Rattle.sim_laws.proofs.Common.{◌≡◌, ℕ, ◌≤◌, true, false, List, ◌∷◌, refl, ap, is_before, nat_list_cmp_total, sym, true≢false, ◌∙◌}
+use Rattle.sim_laws.proofs.Common.{ap, false, is_before, List, nat_list_cmp_total, refl, sym, true, true≢false, ℕ, ◌∙◌, ◌∷◌, ◌≡◌, ◌≤◌}
+use Rattle.std.proofs.{Common.{Equal, Greater, Less, Ordering}, lemmas.Map.Keys.ge_from_not_lt}
+use Rattle.std.specs.{Cmp.Lexicographic.{same_text, slice_cmp, texts_ties}, Ordering.{is_eq, is_lt, nat_cmp, ordering_reverse, ordering_then}}
 
 neither : (o : Ordering) → is_lt o ≡ false → is_lt (ordering_reverse o) ≡ false → is_eq o ≡ true
 neither Less f g = absurd (true≢false f)

@@ -1,13 +1,12 @@
 -- The eight directions: a neighbour lies on the ground, has the cell as its own neighbour, and stands in one row or one column with it just where
 -- the direction is straight.
-use Rattle.sim_base.proofs.GroundPoints.{below}
-use Rattle.sim_base.specs.{Places.back, Places.cell_at, Places.forward, Places.level, Places.offsets, Ways.steps_into}
-use Rattle.sim_laws.proofs.Common.{[], and_from, and_parts, ap, ap₂, arith, beside_open, Bool, Cell, cells_of, cond, cond-true, cond_some, entry, eq-eqb, eqb}
+use Rattle.sim_base.{proofs.GroundPoints.below, specs.{Places.{back, cell_at, forward, level, offsets}, Ways.steps_into}}
+use Rattle.sim_laws.proofs.Common.{and_from, and_parts, ap, ap₂, arith, beside_open, Bool, Cell, cells_of, cond, cond-true, cond_some, entry, eq-eqb, eqb}
 use Rattle.sim_laws.proofs.Common.{eqb-true, false, Field, filter_map, find, get_or, inl, inr, int_le, int_lt, ints, is_free, is_straight, IsOnGround, IsStep}
 use Rattle.sim_laws.proofs.Common.{le-leb, leb, List, lt-ltb, ltb, map, ne_eqb, negsuc, neighbour, None, Option, option_and_then, pos, range_with_len, refl}
 use Rattle.sim_laws.proofs.Common.{same_cell, Size, slice_get, slice_get_within, Some, Source, step_cost, step_from, steps_of, suc, sym, table_of, true}
-use Rattle.sim_laws.proofs.Common.{true≢false, unsigned_abs, zero, ℕ, ℤ, ⊎_elim, ◌&&◌, ◌++◌, ◌+ℤ◌, ◌+◌, ◌<◌, ◌||◌, ◌∙◌, ◌∷◌, ◌≡◌, ◌≤◌, ◌⊎◌}
-use Rattle.std.{proofs.Common.flat_map, proofs.lemmas.List.FromFn.get_or-map-range_with_len, proofs.lemmas.Option.option_and_then_some, specs.List.cons_option}
+use Rattle.sim_laws.proofs.Common.{true≢false, unsigned_abs, zero, ℕ, ℤ, ⊎_elim, [], ◌&&◌, ◌++◌, ◌+ℤ◌, ◌+◌, ◌<◌, ◌||◌, ◌∙◌, ◌∷◌, ◌≡◌, ◌≤◌, ◌⊎◌}
+use Rattle.std.{proofs.{Common.flat_map, lemmas.{List.FromFn.get_or-map-range_with_len, Option.option_and_then_some}}, specs.List.cons_option}
 
 -- What is among the members of a list, by recursion on the list; of a range, a map, a filter, and joined lists.
 

@@ -1,13 +1,12 @@
 -- A command leaves the rows of other owners as they are, but for those whose target leaves.
-use Rattle.sim_laws.proofs.Common.{Setup, size_of, slice_get, Some, spot, State, Stop, stopped, subst, sym, target_of, Template, template_of, Train, trained}
-use Rattle.sim_laws.proofs.Common.{[], ap, arith, Attack, Bool, cases_Bool, Cell, centre_of, Command, commanded, commanded_by, cond, created, Delete, false}
-use Rattle.sim_laws.proofs.Common.{filter, has_room, id_of, inl, inr, is_enemy, is_inside, is_ordered, is_placeable, is_some, IsLooselyValid, List, list_any}
-use Rattle.sim_laws.proofs.Common.{map, ne_eqb, new_row, None, not, Option, Place, placed_on, Point, refl, released, removed, Resign, Row, row_of, sent, set_on}
-use Rattle.sim_laws.proofs.Common.{trains, true, with_new, with_ordered, ℕ, ⊎_elim, ◌&&◌, ◌<◌, ◌==◌, ◌∙◌, ◌∷◌, ◌≡◌, ◌≤◌, ◌⊎◌}
-use Rattle.sim_laws.proofs.{Neighbours.Has, Neighbours.Has-append_left, Neighbours.Has-map, Neighbours.Has-of_map, Removing.left_all, Removing.let_go}
-use Rattle.sim_laws.proofs.{Removing.others, Removing.removed_all, Turning.command_keeps_loose, Validity.Has-filter, Validity.Has-of_filter, Validity.all_at}
-use Rattle.{sim_base.specs.declared.command.Command.TheVariants.Walk, sim_laws.proofs.Validity.apart, sim_laws.proofs.Validity.found_row}
-use Rattle.{sim_laws.proofs.Validity.row_found, sim_laws.proofs.Validity.same_row, sim_laws.specs.TurnLaws.CommandLeavesOthers, std.specs.Prelude.IsSome}
+use Rattle.{sim_base.specs.declared.command.Command.TheVariants.Walk, sim_laws.proofs.Common.{ap, arith, Attack, Bool, cases_Bool, Cell, centre_of, Command}}
+use Rattle.sim_laws.proofs.Common.{commanded, commanded_by, cond, created, Delete, false, filter, has_room, id_of, inl, inr, is_enemy, is_inside, is_ordered}
+use Rattle.sim_laws.proofs.Common.{is_placeable, is_some, IsLooselyValid, List, list_any, map, ne_eqb, new_row, None, not, Option, Place, placed_on, Point}
+use Rattle.sim_laws.proofs.Common.{refl, released, removed, Resign, Row, row_of, sent, set_on, Setup, size_of, slice_get, Some, spot, State, Stop, stopped}
+use Rattle.sim_laws.proofs.Common.{subst, sym, target_of, Template, template_of, Train, trained, trains, true, with_new, with_ordered, ℕ, ⊎_elim, [], ◌&&◌, ◌<◌}
+use Rattle.sim_laws.proofs.{Common.{◌==◌, ◌∙◌, ◌∷◌, ◌≡◌, ◌≤◌, ◌⊎◌}, Neighbours.{Has, Has-append_left, Has-map, Has-of_map}}
+use Rattle.sim_laws.proofs.{Removing.{left_all, let_go, others, removed_all}, Turning.command_keeps_loose, Validity.{all_at, apart, found_row, Has-filter}}
+use Rattle.{sim_laws.{proofs.Validity.{Has-of_filter, row_found, same_row}, specs.TurnLaws.CommandLeavesOthers}, std.specs.Prelude.IsSome}
 
 -- a row stays as it is where another one leaves that is not its target
 left_alone : (id : ℕ) (state : State) (row : Row) → Has state.rows row → (row.id ≡ id → ⊥) → (target_of row ≡ id → ⊥)

@@ -1,15 +1,14 @@
 -- A state stays valid where a row is removed. Where all rows whose health is spent are removed, the state is valid again.
-use Rattle.sim_base.specs.Turn.{choices, gone, is_idle, is_spent, lets_go, looking, may_take, square_to, target_for, with_releases, with_targets}
-use Rattle.sim_base.specs.{Commands.aimed_at, Commands.halted, Commands.seen, Commands.with_stance, Commands.within, Ways.lesser_of}
+use Rattle.sim_base.specs.{Commands.{aimed_at, halted, seen, with_stance, within}, Turn.choices}
+use Rattle.sim_base.specs.{Turn.{gone, is_idle, is_spent, lets_go, looking, may_take, square_to, target_for, with_releases, with_targets}, Ways.lesser_of}
+use Rattle.sim_laws.proofs.Common.{Aim, aimed, All-map, and_parts, ap, arith, Arms, arms_of, Bool, Both, cond, cond_both, enemies_of, eqb-false, false, filter}
+use Rattle.sim_laws.proofs.Common.{fold, has_health, id_of, in_mask, inl, inr, ints, is_before, is_near, is_some, IsKnownRow, IsLooselyValid, IsState}
 use Rattle.sim_laws.proofs.Common.{IsStrictlyIncreasing, IsTrue, IsValid, IsValidAim, IsValidMotion, IsValidRow, least_of, length, length-map, List, map}
 use Rattle.sim_laws.proofs.Common.{Motion, nat_list_cmp_total, ne_eqb, None, not, not-true, Option, option_map, pos, refl, released, removed, Row, row_of}
-use Rattle.sim_laws.proofs.Common.{Setup, Some, State, Still, subst, sym, target_of, Template, true, unwrap_or, ℕ, ℤ, ⊎_elim, ◌&&◌, ◌<◌, ◌==◌, ◌∙◌, ◌∷◌, ◌≡◌}
-use Rattle.sim_laws.proofs.Common.{[], Aim, aimed, All-map, and_parts, ap, arith, Arms, arms_of, Bool, Both, cond, cond_both, enemies_of, eqb-false, false}
-use Rattle.sim_laws.proofs.Common.{filter, fold, has_health, id_of, in_mask, inl, inr, ints, is_before, is_near, is_some, IsKnownRow, IsLooselyValid, IsState}
-use Rattle.sim_laws.proofs.Validity.{all_at, all_from, Has-filter, Has-of_filter, has_health_of, known_row, map-map, map_agree, mapped_is_state, of_has_health}
-use Rattle.sim_laws.proofs.{Common.◌≢◌, Common.◌≤ℤ◌, Common.◌≤◌, Common.◌⊎◌, Neighbours.Has, Neighbours.Has-map, Neighbours.Has-of_map, Validity.Stays}
-use Rattle.std.proofs.lemmas.{List.Kept.IsStrictlyIncreasing-filter, List.MinMax.ranks_by, Map.Entries.option_filter}
-use Rattle.{sim_laws.proofs.Validity.row_known, std.specs.Cmp.IsStrictWeakOrder}
+use Rattle.sim_laws.proofs.Common.{Setup, Some, State, Still, subst, sym, target_of, Template, true, unwrap_or, ℕ, ℤ, ⊎_elim, [], ◌&&◌, ◌<◌, ◌==◌, ◌∙◌, ◌∷◌}
+use Rattle.sim_laws.proofs.{Common.{◌≡◌, ◌≢◌, ◌≤ℤ◌, ◌≤◌, ◌⊎◌}, Neighbours.{Has, Has-map, Has-of_map}, Validity.{all_at, all_from, Has-filter, Has-of_filter}}
+use Rattle.sim_laws.proofs.Validity.{has_health_of, known_row, map-map, map_agree, mapped_is_state, of_has_health, row_known, Stays}
+use Rattle.std.{proofs.lemmas.{List.{Kept.IsStrictlyIncreasing-filter, MinMax.ranks_by}, Map.Entries.option_filter}, specs.Cmp.IsStrictWeakOrder}
 
 -- ---- rows that take another target, stand still, or are released
 

@@ -1,8 +1,7 @@
 -- The root, which is the greatest number that passes a test, is the one number whose square is within and the next one's is not.
-use Rattle.sim_base.{proofs.RootLemmas.root_is, proofs.RootLemmas.self_le_square, specs.Places.greatest}
+use Rattle.sim_base.{proofs.RootLemmas.{root_is, self_le_square}, specs.Places.greatest}
 use Rattle.sim_laws.proofs.Common.{arith, Bool, cases_lt, cond, false, le-leb, leb, refl, root, suc, sym, true, true≢false, zero, ℕ, ⊎_elim, ◌*◌, ◌+◌, ◌<◌, ◌∙◌}
-use Rattle.sim_laws.{proofs.Common.◌≡◌, proofs.Common.◌≤◌, specs.NumberLaws.RootIsGreatest, specs.NumberLaws.RootIsUnique}
-use Rattle.std.proofs.{Math.Nat.eq-or-lt_of_le, lemmas.Bool.leb-true}
+use Rattle.{sim_laws.{proofs.Common.{◌≡◌, ◌≤◌}, specs.NumberLaws.{RootIsGreatest, RootIsUnique}}, std.proofs.{lemmas.Bool.leb-true, Math.Nat.eq-or-lt_of_le}}
 
 -- where 0 passes, the greatest passes
 greatest_passes : (test : ℕ → Bool) (bound : ℕ) → test 0 ≡ true → test (greatest test bound) ≡ true

@@ -1,18 +1,17 @@
 -- The costs that the rounds find are the least costs of walks.
-use Rattle.sim_base.specs.Ways.{costs_after, costs_of, end_of, first_costs, LeadsTo, least_by, next_costs, points_to, predecessor, reached_of, steps_by}
-use Rattle.sim_base.specs.{Places.same_table, Ways.trail_by, Ways.unless_same, Ways.way_over}
-use Rattle.sim_laws.proofs.Common.{IsFound, IsOnGround, IsPredecessor, IsStep, IsTrail, length, List, ltb, map, MatchBool, nat_eq, neighbour, None, Option}
-use Rattle.sim_laws.proofs.Common.{[], ap, ap₂, arith, beside_open, Bool, Cell, cell_of, cells_of, cond, cond-true, cond_both, cost_by, Costs, end_key, entry}
+use Rattle.sim_base.specs.{Places.same_table, Ways.{costs_after, costs_of, end_of, first_costs, LeadsTo, least_by, next_costs, points_to, predecessor}}
+use Rattle.sim_base.specs.Ways.{reached_of, steps_by, trail_by, unless_same, way_over}
+use Rattle.sim_laws.proofs.Common.{ap, ap₂, arith, beside_open, Bool, Cell, cell_of, cells_of, cond, cond-true, cond_both, cost_by, Costs, end_key, entry}
 use Rattle.sim_laws.proofs.Common.{eq-eqb, eqb-true, false, Field, filter_map, find, first_points, go, inl, inr, is_before, is_free, is_straight, IsCost, IsEnd}
+use Rattle.sim_laws.proofs.Common.{IsFound, IsOnGround, IsPredecessor, IsStep, IsTrail, length, List, ltb, map, MatchBool, nat_eq, neighbour, None, Option}
 use Rattle.sim_laws.proofs.Common.{option_eq, option_map, Point, range_with_len, Reached, refl, same_cell, Size, Some, Source, stay, step_cost, step_from}
-use Rattle.sim_laws.proofs.Common.{steps_of, subst, suc, sym, Table, table_of, trail_of, true, true≢false, Walk, way_between, way_of, zero, ℕ, ⊎_elim, ◌*◌, ◌+◌}
-use Rattle.sim_laws.proofs.Neighbours.{Has-of_filter_map, Has-source, IsListed-from_step, IsSource-from_has, IsStep-from, neighbour-below_eight, neighbour-on}
-use Rattle.sim_laws.proofs.Neighbours.{entry-table_of, find-filter_map, Finds, free, free-is, free_of, Has, Has-cells_of, Has-filter_map, Has-of_cells_of}
-use Rattle.sim_laws.proofs.Neighbours.{same_cell-self, same_cell-true, step_from-is, step_from-some, steps-is, straight-in_line}
-use Rattle.sim_laws.proofs.{Common.◌-◌, Common.◌<◌, Common.◌∙◌, Common.◌∷◌, Common.◌≡◌, Common.◌≤◌, Common.◌⊎◌, Trips.Trip, Trips.begin, Trips.cut, Trips.more}
-use Rattle.sim_laws.proofs.{Common.◌||◌, OneWay.way_unique, Removing.least_of-has, Removing.least_of-some, Trips.cut-short, Trips.trip-on, Trips.walk-on}
-use Rattle.sim_laws.specs.WayLaws.{WayIsWayOf, WayOfByGround, WayOfIsWay}
-use Rattle.std.{proofs.Common.add-zero, proofs.Common.ltb-false, proofs.lemmas.Bool.cond-false, specs.Cmp.Lexicographic.pointwise_decides}
+use Rattle.sim_laws.proofs.Common.{steps_of, subst, suc, sym, Table, table_of, trail_of, true, true≢false, Walk, way_between, way_of, zero, ℕ, ⊎_elim, [], ◌*◌}
+use Rattle.sim_laws.proofs.{Common.{◌+◌, ◌-◌, ◌<◌, ◌||◌, ◌∙◌, ◌∷◌, ◌≡◌, ◌≤◌, ◌⊎◌}, Neighbours.{entry-table_of, find-filter_map, Finds, free, free-is, free_of}}
+use Rattle.sim_laws.proofs.Neighbours.{Has, Has-cells_of, Has-filter_map, Has-of_cells_of, Has-of_filter_map, Has-source, IsListed-from_step, IsSource-from_has}
+use Rattle.sim_laws.proofs.Neighbours.{IsStep-from, neighbour-below_eight, neighbour-on, same_cell-self, same_cell-true, step_from-is, step_from-some, steps-is}
+use Rattle.sim_laws.proofs.{Neighbours.straight-in_line, OneWay.way_unique, Removing.{least_of-has, least_of-some}}
+use Rattle.sim_laws.{proofs.Trips.{begin, cut, cut-short, more, Trip, trip-on, walk-on}, specs.WayLaws.{WayIsWayOf, WayOfByGround, WayOfIsWay}}
+use Rattle.std.{proofs.{Common.{add-zero, ltb-false}, lemmas.Bool.cond-false}, specs.Cmp.Lexicographic.pointwise_decides}
 
 not_before : (a b : ℕ) → is_before (a ∷ []) (b ∷ []) ≡ false → b ≤ a
 not_before a b h = by (ltb a b) refl

@@ -1,10 +1,9 @@
 -- Walks by the cells that they come through. Each walk can be cut down to one that is at no cell twice and costs no more, and such a one has
 -- fewer steps than the ground has cells.
-use Rattle.sim_laws.proofs.Common.{Size, stay, suc, sym, true, true≢false, Walk, ℕ, ⊎_elim, ◌*◌, ◌+◌, ◌<◌, ◌||◌, ◌∷◌, ◌≡◌, ◌≤◌}
-use Rattle.sim_laws.proofs.Common.{[], ap, arith, Bool, Cell, eqb, eqb-true, false, Field, go, IsOnGround, IsStep, length, List, list_any, map, or_cases, refl}
-use Rattle.std.proofs.lemmas.{Bool.or_parts, Map.Keys.IsDistinct-cons, Map.Keys.IsDistinct-from_apart, Map.Keys.IsDistinct-tail}
-use Rattle.std.proofs.lemmas.{Map.Steps.length-le_from_distinct_below, Nat.mul-add-lt, Nat.same_from_place}
-use Rattle.{sim_laws.proofs.Neighbours.neighbour-on, sim_laws.proofs.Neighbours.same_by_parts, std.specs.List.AllByRecursion, std.specs.List.IsDistinct}
+use Rattle.sim_laws.proofs.Common.{ap, arith, Bool, Cell, eqb, eqb-true, false, Field, go, IsOnGround, IsStep, length, List, list_any, map, or_cases, refl}
+use Rattle.sim_laws.proofs.{Common.{Size, stay, suc, sym, true, true≢false, Walk, ℕ, ⊎_elim, [], ◌*◌, ◌+◌, ◌<◌, ◌||◌, ◌∷◌, ◌≡◌, ◌≤◌}, Neighbours.neighbour-on}
+use Rattle.{sim_laws.proofs.Neighbours.same_by_parts, std.proofs.lemmas.{Bool.or_parts, Map.Keys.{IsDistinct-cons, IsDistinct-from_apart, IsDistinct-tail}}}
+use Rattle.std.{proofs.lemmas.{Map.Steps.length-le_from_distinct_below, Nat.{mul-add-lt, same_from_place}}, specs.List.{AllByRecursion, IsDistinct}}
 
 -- a walk from the start to a cell, by the cells that it was at before, the latest first, and its cost
 pub data Trip (field : Field) (start : Cell) : Cell → List Cell → ℕ → Type 0 where

@@ -1,20 +1,18 @@
 -- A turn, a bend and a whole past keep a state valid.
-use Rattle.sim_base.specs.declared.{command.Command.TheVariants.Walk, command.PlayerCommand.PlayerCommand, setup.Timed.Timed}
-use Rattle.sim_base.specs.{Commands.with_row, Limits.IsTimed, Turn.Bend, Turn.Turn, Turn.from, Turn.is_health_of, Turn.may_bend, Turn.orders_at, Turn.own_turns}
-use Rattle.sim_laws.proofs.Common.{Bool, Both, cases_Bool, Cell, centre_of, Command, commanded, commanded_by, cond, cond_both, created, Delete, eqb-true, false}
-use Rattle.sim_laws.proofs.Common.{IsValid, IsValidRow, List, map, map-append, Motion, moved, new_row, None, not, Option, option_and_then, Place, placed_on}
-use Rattle.sim_laws.proofs.Common.{Point, pos, refl, removed, Resign, Row, row_of, sent, set_on, Setup, size_of, slice_get, Some, spot, State, Stop, stopped}
-use Rattle.sim_laws.proofs.Common.{[], Aim, aimed, All, All-cons, All-head, All-map, All-nil, All-tail, All-weaker, and_parts, ap, append-nil, arith, Attack}
-use Rattle.sim_laws.proofs.Common.{filter, First, first_state, fold, has_room, hit, id_of, int_le, ints, is_enemy, is_inside, is_ordered, is_placeable, IsSetup}
-use Rattle.sim_laws.proofs.Common.{subst, suc, sym, Template, template_of, Train, trained, trains, true, with_new, with_ordered, zero, ℕ, ℤ, ⊎_elim, ◌&&◌, ◌++◌}
-use Rattle.sim_laws.proofs.Validity.{apart, first_state_is_valid, found_row, map-map, map_agree, mapped_is_state, same_row, valid_is_loose}
-use Rattle.sim_laws.proofs.{Commanding.commanded_by_is_state, Commanding.moved_is_state, Common.◌+◌, Common.◌==◌, Common.◌∙◌, Common.◌∷◌, Common.◌≡◌}
-use Rattle.sim_laws.proofs.{Common.◌≤ℤ◌, Common.◌≤◌, Hitting.hit_is_state, Neighbours.Has, Removing.aimed_is_state, Removing.gone_is_valid}
-use Rattle.sim_laws.proofs.{Removing.removed-ids, Removing.removed_all, Removing.removed_all-turn, Removing.same_stays, Removing.spent_ids, Validity.Stays}
-use Rattle.sim_laws.specs.TurnLaws.{AfterCountsTurns, AfterIsValid, BendKeepsTurn, BendKeepsValid, CommandKeepsLoose, CommandKeepsOrder, CommandKeepsTurn}
-use Rattle.sim_laws.specs.TurnLaws.{CommandKeepsValid, FromCountsTurns, FromKeepsValid, IsItemOf, IsOrderOf, KeepsOrder, OwnTurnsAreOfPlayers}
-use Rattle.sim_laws.specs.{PhaseLaws.GoneKeepsTurn, TurnLaws.OwnTurnsAreSoMany, TurnLaws.TurnIsCounted, TurnLaws.TurnKeepsValid}
-use Rattle.std.proofs.lemmas.List.Elements.{All-filter}
+use Rattle.sim_base.specs.{Commands.with_row, declared.{command.{Command.TheVariants.Walk, PlayerCommand.PlayerCommand}, setup.Timed.Timed}, Limits.IsTimed}
+use Rattle.{sim_base.specs.Turn.{Bend, from, is_health_of, may_bend, orders_at, own_turns, Turn}, sim_laws.proofs.Commanding.commanded_by_is_state}
+use Rattle.sim_laws.proofs.{Commanding.moved_is_state, Common.{Aim, aimed, All, All-cons, All-head, All-map, All-nil, All-tail, All-weaker, and_parts, ap}}
+use Rattle.sim_laws.proofs.Common.{append-nil, arith, Attack, Bool, Both, cases_Bool, Cell, centre_of, Command, commanded, commanded_by, cond, cond_both}
+use Rattle.sim_laws.proofs.Common.{created, Delete, eqb-true, false, filter, First, first_state, fold, has_room, hit, id_of, int_le, ints, is_enemy, is_inside}
+use Rattle.sim_laws.proofs.Common.{is_ordered, is_placeable, IsSetup, IsValid, IsValidRow, List, map, map-append, Motion, moved, new_row, None, not, Option}
+use Rattle.sim_laws.proofs.Common.{option_and_then, Place, placed_on, Point, pos, refl, removed, Resign, Row, row_of, sent, set_on, Setup, size_of, slice_get}
+use Rattle.sim_laws.proofs.Common.{Some, spot, State, Stop, stopped, subst, suc, sym, Template, template_of, Train, trained, trains, true, with_new}
+use Rattle.sim_laws.proofs.{Common.{with_ordered, zero, ℕ, ℤ, ⊎_elim, [], ◌&&◌, ◌++◌, ◌+◌, ◌==◌, ◌∙◌, ◌∷◌, ◌≡◌, ◌≤ℤ◌, ◌≤◌}, Hitting.hit_is_state}
+use Rattle.sim_laws.proofs.{Neighbours.Has, Removing.{aimed_is_state, gone_is_valid, removed-ids, removed_all, removed_all-turn, same_stays, spent_ids}}
+use Rattle.sim_laws.proofs.Validity.{apart, first_state_is_valid, found_row, map-map, map_agree, mapped_is_state, same_row, Stays, valid_is_loose}
+use Rattle.sim_laws.specs.{PhaseLaws.GoneKeepsTurn, TurnLaws.{AfterCountsTurns, AfterIsValid, BendKeepsTurn, BendKeepsValid, CommandKeepsLoose}}
+use Rattle.sim_laws.specs.TurnLaws.{CommandKeepsOrder, CommandKeepsTurn, CommandKeepsValid, FromCountsTurns, FromKeepsValid, IsItemOf, IsOrderOf, KeepsOrder}
+use Rattle.{sim_laws.specs.TurnLaws.{OwnTurnsAreOfPlayers, OwnTurnsAreSoMany, TurnIsCounted, TurnKeepsValid}, std.proofs.lemmas.List.Elements.All-filter}
 
 -- ---- commands
 

@@ -1,14 +1,13 @@
 -- A valid state is loosely valid, a state stays valid where a row is made, and so the first state of a match is valid.
-use Rattle.sim_laws.proofs.Common.{IsValidAim, IsValidMotion, IsValidRow, length, length-map, List, map, map-append, MatchOption, new_row, None, Option}
-use Rattle.sim_laws.proofs.Common.{Template, template_of, true, with_new, zero, ℕ, ℤ, ⊎_elim, ◌&&◌, ◌++◌, ◌+◌, ◌-◌, ◌<◌, ◌==◌, ◌∙◌, ◌∷◌, ◌≡◌, ◌≢◌, ◌≤ℤ◌, ◌≤◌}
-use Rattle.sim_laws.proofs.Common.{[], Aim, All, All-cons, All-head, All-map, All-nil, All-tail, All-weaker, and_parts, ap, arith, Arms, Bool, Both, cases_lt}
-use Rattle.sim_laws.proofs.Common.{cond, created, eq-eqb, eqb-true, false, filter, find, First, first_state, fold, get_or, has_health, id_of, inl, inr, ints}
-use Rattle.sim_laws.proofs.Common.{is_some, IsInside, IsKnownRow, IsLooselyValid, IsSetup, IsState, IsStrictlyIncreasing, IsTemplate, IsTrue, IsValid}
-use Rattle.sim_laws.proofs.Common.{option_map, or_cases, or_left, Point, pos, refl, Row, row_of, Setup, slice_get, Some, State, Still, subst, suc, sym}
-use Rattle.std.proofs.lemmas.{Bool.or_right, List.Elements.All-push, List.Folds.list_any-append, List.Kept.AllPairs-from_increasing, List.get_or-append_right}
-use Rattle.std.proofs.{Common.IfSome, Common.length-append, lemmas.List.get_or_append_left, lemmas.Option.slice_get-get_or}
-use Rattle.std.specs.Prelude.{AllPairs}
-use Rattle.{sim_base.specs.Limits.IsFirst, sim_base.specs.Limits.IsRawFrom, sim_laws.proofs.Neighbours.Has, sim_laws.proofs.Neighbours.Has-map}
+use Rattle.{sim_base.specs.Limits.{IsFirst, IsRawFrom}, sim_laws.proofs.Common.{Aim, All, All-cons, All-head, All-map, All-nil, All-tail, All-weaker}}
+use Rattle.sim_laws.proofs.Common.{and_parts, ap, arith, Arms, Bool, Both, cases_lt, cond, created, eq-eqb, eqb-true, false, filter, find, First, first_state}
+use Rattle.sim_laws.proofs.Common.{fold, get_or, has_health, id_of, inl, inr, ints, is_some, IsInside, IsKnownRow, IsLooselyValid, IsSetup, IsState}
+use Rattle.sim_laws.proofs.Common.{IsStrictlyIncreasing, IsTemplate, IsTrue, IsValid, IsValidAim, IsValidMotion, IsValidRow, length, length-map, List, map}
+use Rattle.sim_laws.proofs.Common.{map-append, MatchOption, new_row, None, Option, option_map, or_cases, or_left, Point, pos, refl, Row, row_of, Setup}
+use Rattle.sim_laws.proofs.Common.{slice_get, Some, State, Still, subst, suc, sym, Template, template_of, true, with_new, zero, ℕ, ℤ, ⊎_elim, [], ◌&&◌, ◌++◌}
+use Rattle.sim_laws.proofs.{Common.{◌+◌, ◌-◌, ◌<◌, ◌==◌, ◌∙◌, ◌∷◌, ◌≡◌, ◌≢◌, ◌≤ℤ◌, ◌≤◌}, Neighbours.{Has, Has-map}}
+use Rattle.std.proofs.{Common.{IfSome, length-append}, lemmas.{Bool.or_right, List.{Elements.All-push, Folds.list_any-append, get_or-append_right}}}
+use Rattle.std.{proofs.lemmas.{List.{get_or_append_left, Kept.AllPairs-from_increasing}, Option.slice_get-get_or}, specs.Prelude.AllPairs}
 
 -- Rows of a state: which are among its rows, that their ids are apart, and what is found by an id.
 

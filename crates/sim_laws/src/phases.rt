@@ -1,7 +1,6 @@
 //! Laws of the phases of a turn.
 
-ghost use Rattle.sim_base.specs.Turn.{aimed, hit, moved};
-ghost use Rattle.sim_laws.specs.PhaseLaws.{GoneIsValid, GoneKeepsTurn, KeepsLoose, KeepsTurn, KeepsValid};
+ghost use Rattle.{sim_base.specs.Turn.{aimed, hit, moved}, sim_laws.specs.PhaseLaws.{GoneIsValid, GoneKeepsTurn, KeepsLoose, KeepsTurn, KeepsValid}};
 
 /// The phase in which fighters choose their targets keeps a state valid or loosely valid.
 pub fn aiming_keeps()

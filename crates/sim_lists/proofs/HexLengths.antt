@@ -1,7 +1,6 @@
 -- A text has two digits for each byte.
-use Rattle.std.proofs.Common.{Bool, Err, false, if◌then◌else◌, length, List, None, Ok, refl, Result, Some, subst, true, ℕ, ◌*◌, ◌≡◌}
-use Rattle.{hex.proofs.HexLemmas.decode_of-ok, hex.specs.Hex.decode_of, hex.specs.declared.error.FromHexError.FromHexError, sim_lists.specs.Arrivals.hex_of}
-use Rattle.{sim_lists.specs.Arrivals.is_hex, std.specs.Result.result_ok}
+use Rattle.{hex.{proofs.HexLemmas.decode_of-ok, specs.{declared.error.FromHexError.FromHexError, Hex.decode_of}}, sim_lists.specs.Arrivals.{hex_of, is_hex}}
+use Rattle.std.{proofs.Common.{Bool, Err, false, if◌then◌else◌, length, List, None, Ok, refl, Result, Some, subst, true, ℕ, ◌*◌, ◌≡◌}, specs.Result.result_ok}
 
 pub hex_length : (text bytes : List ℕ) → hex_of text ≡ Some bytes → length text ≡ 2 * length bytes
 hex_length text bytes = by (is_hex text) (decode_of text) refl

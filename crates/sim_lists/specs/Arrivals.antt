@@ -1,13 +1,12 @@
 -- Arrivals as a schedule spells them: a client, a word, and what follows it.
 use Rattle.sim_lists.specs.declared.schedule.Said.TheVariants as said
 use Rattle.sim_plain.specs.Messages as plain
-use Rattle.sim_json.specs.Commands.{command_of, command_takes, next_or, three}
-use Rattle.sim_plain.specs.declared.message.UpOf.{TheVariants.Command, TheVariants.Done, TheVariants.Join, TheVariants.Report, TheVariants.State, UpOf}
-use Rattle.std.specs.Prelude.{[], Bool, codes, false, if◌then◌else◌, length, List, nat_le, nat_lt, None, Option, option_and_then, option_map, Some, ℕ, ◌%◌}
-use Rattle.std.specs.{Prelude.◌&&◌, Prelude.◌*◌, Prelude.◌-◌, Prelude.◌==◌, Prelude.◌^◌, Prelude.◌∷◌, Result.result_ok, Str.bytes_eq}
-use Rattle.{hex.specs.Hex.decode_of, serde_json.specs.Data.Data, serde_json.specs.Find.as_str, sim_bytes.specs.Hex.is_digit, sim_json.specs.Values.front_two}
-use Rattle.{sim_json.specs.Values.list_of, sim_json.specs.Values.natural_in, sim_json.specs.Values.two, sim_lists.specs.declared.schedule.Arrival.Arrival}
-use Rattle.{sim_lists.specs.declared.schedule.Said.Said, sim_wire.specs.Memory.raw, sim_wire.specs.Reading.state_limit, std.specs.List.list_all}
+use Rattle.{hex.specs.Hex.decode_of, serde_json.specs.{Data.Data, Find.as_str}, sim_bytes.specs.Hex.is_digit}
+use Rattle.sim_json.specs.{Commands.{command_of, command_takes, next_or, three}, Values.{front_two, list_of, natural_in, two}}
+use Rattle.sim_lists.specs.declared.schedule.{Arrival.Arrival, Said.Said}
+use Rattle.{sim_plain.specs.declared.message.UpOf.{TheVariants.{Command, Done, Join, Report, State}, UpOf}, sim_wire.specs.{Memory.raw, Reading.state_limit}}
+use Rattle.std.specs.{List.list_all, Prelude.{Bool, codes, false, if◌then◌else◌, length, List, nat_le, nat_lt, None, Option, option_and_then, option_map, Some}}
+use Rattle.std.specs.{Prelude.{ℕ, [], ◌%◌, ◌&&◌, ◌*◌, ◌-◌, ◌==◌, ◌^◌, ◌∷◌}, Result.result_ok, Str.bytes_eq}
 
 -- Texts of hexadecimal digits as bytes.
 

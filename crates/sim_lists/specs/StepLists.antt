@@ -1,12 +1,10 @@
 -- The list of steps that bytes spell, or the number of what is refused. Its clients are players of a match.
-use Rattle.sim_base.specs.declared.step.Step.TheVariants.{Bend, Cut, Down, Join, Order, Play, Up}
-use Rattle.sim_json.specs.Values.{front_two, list_at, list_of, natural_at, natural_in, two, value_of}
-use Rattle.sim_json.specs.{Commands.IsLeast, Commands.command_of, Commands.id_in, Commands.next_or, Commands.numbered, Keys.other_key, Values.fixed}
-use Rattle.sim_lists.specs.declared.{schedule.Arrival.Arrival, schedule.Schedule.Schedule, step_list.StepList.StepList}
-use Rattle.std.specs.Prelude.{[], All, Bool, codes, Err, if◌then◌else◌, is_some, length, List, nat_le, None, Ok, Option, option_and_then, option_map, Result}
-use Rattle.std.specs.{Prelude.Some, Prelude.ℕ, Prelude.◌+◌, Prelude.◌∷◌, Prelude.◌≡◌, Prelude.◌≤◌, Str.bytes_eq}
-use Rattle.{serde_json.specs.Data.Data, sim_base.specs.Limits.HasFewIds, sim_base.specs.Limits.IsFrom, sim_lists.specs.Arrivals.step_takes}
-use Rattle.{serde_json.specs.Find.as_str, sim_base.specs.declared.step.Step.Step, sim_lists.specs.Arrivals.arrival_of, sim_lists.specs.Arrivals.arrival_takes}
+use Rattle.{serde_json.specs.{Data.Data, Find.as_str}, sim_base.specs.declared.step.Step.{Step, TheVariants.{Bend, Cut, Down, Join, Order, Play, Up}}}
+use Rattle.{sim_base.specs.Limits.{HasFewIds, IsFrom}, sim_json.specs.{Commands.{command_of, id_in, IsLeast, next_or, numbered}, Keys.other_key}}
+use Rattle.{sim_json.specs.Values.{fixed, front_two, list_at, list_of, natural_at, natural_in, two, value_of}, sim_lists.specs.Arrivals.arrival_of}
+use Rattle.sim_lists.specs.{Arrivals.{arrival_takes, step_takes}, declared.{schedule.{Arrival.Arrival, Schedule.Schedule}, step_list.StepList.StepList}}
+use Rattle.std.specs.Prelude.{All, Bool, codes, Err, if◌then◌else◌, is_some, length, List, nat_le, None, Ok, Option, option_and_then, option_map, Result, Some}
+use Rattle.std.specs.{Prelude.{ℕ, [], ◌+◌, ◌∷◌, ◌≡◌, ◌≤◌}, Str.bytes_eq}
 
 -- The steps of a session as a list spells them: a word, a client, and what follows them.
 

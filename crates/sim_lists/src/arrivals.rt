@@ -1,21 +1,19 @@
 //! One arrival of a schedule. Each reader is handed what follows its word.
 
-ghost use Rattle.std.specs.Prelude.{false, IfOk, IfSome, IsOk, map, option_and_then, option_map, ◌≡◌};
+ghost use Rattle.{serde_json.specs.{Find.as_str, View.view}, sim_json.specs.{Commands.next_or, Values.{front_two as front_two_of, list_of as list_of_data}}};
 ghost use Rattle.sim_lists.specs.Arrivals.{arrival_by as arrival_by_word, arrival_of as arrival_of_data, arrival_takes, bytes_from as bytes_from_data};
 ghost use Rattle.sim_lists.specs.Arrivals.{bytes_take, command_from as command_from_data, cut_from as cut_from_data, digest_of as digest_of_text, digest_takes};
 ghost use Rattle.sim_lists.specs.Arrivals.{done_from as done_from_data, handed_takes, join_from as join_from_data, ordered_takes, raw_of as raw_of_text};
 ghost use Rattle.sim_lists.specs.Arrivals.{raw_takes, report_from as report_from_data, report_takes, state_from as state_from_data, state_of as state_of_text};
-ghost use Rattle.sim_lists.specs.Arrivals.{state_takes, turn_in as turn_in_data, up_by as up_by_word, up_takes, word_takes};
-ghost use Rattle.{serde_json.specs.Find.as_str, serde_json.specs.View.view, sim_json.specs.Commands.next_or, sim_json.specs.Values.front_two as front_two_of};
-ghost use Rattle.{sim_json.specs.Values.list_of as list_of_data, sim_lists.specs.StepLists.IsFromClient};
+ghost use Rattle.sim_lists.specs.{Arrivals.{state_takes, turn_in as turn_in_data, up_by as up_by_word, up_takes, word_takes}, StepLists.IsFromClient};
+ghost use Rattle.std.specs.Prelude.{false, IfOk, IfSome, IsOk, map, option_and_then, option_map, ◌≡◌};
 
 use crate::hexadecimal::{digest_of, raw_of, state_of};
 use crate::schedule::{Arrival, Said};
 use serde_json::Value;
-use sim_base::OutOfMemory;
+use sim_base::{Global, OutOfMemory};
 use sim_json::{command_of, front_two, list_of, natural_in, three, two};
 use sim_wire::{Bytes, Up};
-use std::alloc::Global;
 
 /// An arrival from one of so many clients, or None where the item is none.
 #[tactic(auto, unfolding(crate::specs::Arrivals::arrival_of, crate::specs::Arrivals::arrival_takes))]

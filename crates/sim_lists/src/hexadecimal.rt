@@ -4,10 +4,9 @@ ghost use Rattle.std.specs.Prelude.{false, IfOk, IsOk, ◌≡◌};
 ghost use Rattle.sim_lists.specs.Arrivals.{digest_of as digest_of_text, digest_takes, hex_of, hex_takes, raw_of as raw_of_text, raw_takes};
 ghost use Rattle.sim_lists.specs.Arrivals.{state_of as state_of_text, state_takes};
 
-use sim_base::{Items, MAX_STATE, OutOfMemory};
+use sim_base::{Global, Items, MAX_STATE, OutOfMemory};
 use sim_bytes::read_hex;
 use sim_wire::{Bytes, MAX_FRAME};
-use std::alloc::Global;
 
 // The bytes of a text of pairs of digits.
 fn bytes_of(alloc: Global, text: &str) -> Result<Option<Bytes>, OutOfMemory>

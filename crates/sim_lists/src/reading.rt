@@ -1,11 +1,10 @@
 //! The whole schedule: the object and its numbers first, then each arrival.
 
-ghost use Rattle.std.specs.Prelude.{All, false, IfOk, IfSome, map, option_and_then, option_map, ◌≡◌};
-ghost use Rattle.std.specs.Str.{is_utf8};
-ghost use Rattle.sim_lists.specs.StepLists.{IsFromClient, IsSchedule, schedule_in as schedule_in_data, schedule_of as schedule_of_bytes};
-ghost use Rattle.sim_lists.specs.StepLists.{arrivals_from as arrivals_from_data, early_items, early_schedule, early_schedule_within, few as few_of};
-ghost use Rattle.sim_lists.specs.{Arrivals.arrival_of as arrival_of_data, Arrivals.arrival_takes, Meets.Meets};
-ghost use Rattle.{serde_json.specs.View.view, sim_json.specs.Values.list_at as list_at_key, sim_lists.specs.StepLists.schedule_within as schedule_within_data};
+ghost use Rattle.{serde_json.specs.View.view, sim_json.specs.Values.list_at as list_at_key};
+ghost use Rattle.sim_lists.specs.{Arrivals.{arrival_of as arrival_of_data, arrival_takes}, Meets.Meets, StepLists.arrivals_from as arrivals_from_data};
+ghost use Rattle.sim_lists.specs.StepLists.{early_items, early_schedule, early_schedule_within, few as few_of, IsFromClient, IsSchedule};
+ghost use Rattle.sim_lists.specs.StepLists.{schedule_in as schedule_in_data, schedule_of as schedule_of_bytes, schedule_within as schedule_within_data};
+ghost use Rattle.std.specs.{Prelude.{All, false, IfOk, IfSome, map, option_and_then, option_map, ◌≡◌}, Str.is_utf8};
 
 use crate::fault::refused;
 use crate::{Arrivals, ListFault, Schedule, arrival_of};

@@ -1,18 +1,16 @@
 //! The whole list of steps: the object and its number of clients first, then each step.
 
-ghost use Rattle.std.specs.{Prelude.All, Prelude.IfOk, Prelude.IfSome, Prelude.false, Prelude.map, Prelude.◌≡◌, Str.is_utf8};
-ghost use Rattle.serde_json.specs.View.{view};
-ghost use Rattle.sim_lists.specs.StepLists.{early_items, early_steps, IsStep, IsStepList, step_of as step_of_data, steps_in as steps_in_data};
-ghost use Rattle.sim_lists.specs.StepLists.{steps_of as steps_of_bytes, steps_within as steps_within_data};
-ghost use Rattle.sim_lists.specs.{Arrivals.step_takes, Meets.Meets, StepLists.early_steps_within, StepLists.steps_from as steps_from_data};
+ghost use Rattle.{serde_json.specs.View.view, sim_lists.specs.{Arrivals.step_takes, Meets.Meets, StepLists.early_items}};
+ghost use Rattle.sim_lists.specs.StepLists.{early_steps, early_steps_within, IsStep, IsStepList, step_of as step_of_data, steps_from as steps_from_data};
+ghost use Rattle.sim_lists.specs.StepLists.{steps_in as steps_in_data, steps_of as steps_of_bytes, steps_within as steps_within_data};
+ghost use Rattle.std.specs.{Prelude.{All, false, IfOk, IfSome, map, ◌≡◌}, Str.is_utf8};
 
 use crate::fault::refused;
 use crate::reading::{NO_LIST, few};
 use crate::{ListFault, StepList, step_of};
 use serde_json::Value;
-use sim_base::Steps;
+use sim_base::{Global, Steps};
 use sim_json::{natural_at, other_key, value_of};
-use std::alloc::Global;
 
 const KEYS: [&str; 2] = ["clients", "steps"];
 

@@ -6,9 +6,8 @@ ghost use Rattle.sim_lists.specs.{Arrivals.order_takes, Arrivals.step_takes, Ste
 ghost use Rattle.{serde_json.specs.View.view, sim_json.specs.Values.front_two as front_two_of, sim_json.specs.Values.list_of as list_of_data};
 
 use serde_json::Value;
-use sim_base::{OutOfMemory, Step};
+use sim_base::{Global, OutOfMemory, Step};
 use sim_json::{command_of, fixed, front_two, id_in, list_of, natural_in, two};
-use std::alloc::Global;
 
 /// A step of one of so many players, or None where the item is none.
 #[tactic(auto, unfolding(crate::specs::StepLists::step_of, crate::specs::Arrivals::step_takes))]

@@ -1,14 +1,12 @@
 -- Lines that were answered over a session, and one line more.
 use Rattle.sim_talk.specs.declared.fault.TalkFault.TheVariants as ends
-use Rattle.sim_talk.proofs.Talking.{after_lines-more, answered_all, answered_more, caused, conversed, ended_so, Extends-nothing, stopped_amid, stopped_first}
-use Rattle.sim_talk.proofs.Talking.{unbegun, unheard_behind, unmade_answer, untold_answer}
-use Rattle.sim_talk.specs.{Dialogues.Causes, Dialogues.EndsAs, Dialogues.TellsText, Dialogues.after_lines, Dialogues.dialogue, Talks.Extends, Talks.Hears}
-use Rattle.sim_talk.specs.{Talks.History, Talks.Tells, Talks.heard, Talks.told, declared.fault.TalkFault.TalkFault}
-use Rattle.std.proofs.Common.{[], ap, arith, Err, length, length-append, List, Ok, refl, Result, subst, sym, ℕ, ◌++◌, ◌+◌, ◌-◌, ◌^◌, ◌∙◌, ◌∷◌, ◌≡◌, ◌≤◌}
-use Rattle.{sim_base.specs.declared.setup.Setup.Setup, sim_plain_session.specs.Sessions.session, sim_store.specs.declared.fault.Failed.Failed}
-use Rattle.{sim_base.specs.declared.step.Step.Step, sim_live.specs.Live.next, sim_plain_session.specs.Sessions.opened, sim_session.specs.Standing.StandsForSome}
-use Rattle.{sim_live.specs.Live.AnswersAll, sim_session.specs.Standing.Seen, sim_session.specs.Standing.StandsFor, std.specs.Io.KnownBytes.IsAtEnd}
-use Rattle.{sim_live.specs.Live.Lives, sim_live.specs.Live.answer, sim_live.specs.Live.first_text, sim_live.specs.Live.last_text, std.specs.Prelude.⊤}
+use Rattle.{sim_base.specs.declared.{setup.Setup.Setup, step.Step.Step}, sim_live.specs.Live.{answer, AnswersAll, first_text, last_text, Lives, next}}
+use Rattle.{sim_plain_session.specs.Sessions.{opened, session}, sim_session.specs.Standing.{Seen, StandsFor, StandsForSome}}
+use Rattle.{sim_store.specs.declared.fault.Failed.Failed, sim_talk.proofs.Talking.{after_lines-more, answered_all, answered_more, caused, conversed, ended_so}}
+use Rattle.sim_talk.proofs.Talking.{Extends-nothing, stopped_amid, stopped_first, unbegun, unheard_behind, unmade_answer, untold_answer}
+use Rattle.sim_talk.specs.{declared.fault.TalkFault.TalkFault, Dialogues.{after_lines, Causes, dialogue, EndsAs, TellsText}}
+use Rattle.{sim_talk.specs.Talks.{Extends, heard, Hears, History, Tells, told}, std.proofs.Common.{ap, arith, Err, length, length-append, List, Ok, refl}}
+use Rattle.std.{proofs.Common.{Result, subst, sym, ℕ, [], ◌++◌, ◌+◌, ◌-◌, ◌^◌, ◌∙◌, ◌∷◌, ◌≡◌, ◌≤◌}, specs.{Io.KnownBytes.IsAtEnd, Prelude.⊤}}
 
 -- some lines were answered, and the session stands for that over their steps
 pub record HasAnswered (setup : Setup) (clients : ℕ) (seen : Seen) (made before : ℕ) (old new : History) : Type 0 where

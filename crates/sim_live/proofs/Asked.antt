@@ -1,9 +1,8 @@
 -- What is answered to what a line asks for, of its parts.
-use Rattle.sim_live.specs.declared.line.Line.{Line, TheVariants.Look, TheVariants.Other, TheVariants.Step}
-use Rattle.std.proofs.Common.{[], ap, append_assoc, arith, length, length-append, List, sym, ℕ, ◌++◌, ◌+◌, ◌∙◌, ◌∷◌, ◌≡◌}
+use Rattle.sim_live.specs.{declared.line.Line.{Line, TheVariants.{Look, Other, Step}}, Live.{answer_to, steps_with}, Shown.look_text}
+use Rattle.{sim_plain_session.specs.Sessions.{events, session}, sim_session.specs.Laws.lines_of, sim_talk.specs.Marks.{ok_line, refused_line}}
+use Rattle.std.proofs.Common.{ap, append_assoc, arith, length, length-append, List, sym, ℕ, [], ◌++◌, ◌+◌, ◌∙◌, ◌∷◌, ◌≡◌}
 use Rattle.{sim_base.specs.declared.setup.Setup.Setup, sim_base.specs.declared.step.Step.Step as AnyStep, sim_live.specs.declared.look.Look.Look as AnyLook}
-use Rattle.{sim_live.specs.Live.answer_to, sim_plain_session.specs.Sessions.events, sim_plain_session.specs.Sessions.session, sim_talk.specs.Marks.refused_line}
-use Rattle.{sim_live.specs.Live.steps_with, sim_live.specs.Shown.look_text, sim_session.specs.Laws.lines_of, sim_talk.specs.Marks.ok_line}
 
 -- a step, by the lines of its events and its number
 pub step_told : (setup : Setup) (clients : ℕ) (steps : List AnyStep) (x : AnyStep) (made : ℕ) (l : Line) (old one two : List ℕ) → l ≡ Step x

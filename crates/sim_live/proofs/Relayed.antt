@@ -1,15 +1,13 @@
 -- Lines that were answered by the server, and one line more.
 use Rattle.sim_talk.specs.declared.fault.TalkFault.TheVariants as ends
-use Rattle.sim_live.specs.Relays.{answer, AnswersAll, end_lines, first_text, last_text, next, Relays, rules_of}
-use Rattle.sim_server.specs.Standing.{IsSmallServer, StandsFor, View, server_of}
+use Rattle.sim_live.specs.{declared.relaying.RelayRules.RelayRules, Relays.{answer, AnswersAll, end_lines, first_text, last_text, next, Relays, rules_of}}
+use Rattle.{sim_plain.specs.{declared.rules.Rules.Rules, Messages.Arrival, Server.{Server, server_after}}, sim_report.specs.Downs.released_line}
+use Rattle.{sim_server.specs.Standing.{IsSmallServer, server_of, StandsFor, View}, sim_store.specs.declared.fault.Failed.Failed}
 use Rattle.sim_talk.proofs.Talking.{after_lines-more, answered_all, answered_more, caused, conversed, ended_so, Extends-nothing, stopped_amid, stopped_first}
-use Rattle.sim_talk.specs.{Dialogues.Causes, Dialogues.EndsAs, Dialogues.TellsText, Dialogues.after_lines, Dialogues.dialogue, Talks.Extends, Talks.Hears}
-use Rattle.sim_talk.specs.{Talks.History, Talks.Tells, Talks.heard, Talks.told, declared.fault.TalkFault.TalkFault}
-use Rattle.std.proofs.Common.{[], ap, arith, Err, length, length-append, List, Ok, refl, Result, subst, sym, ℕ, ◌++◌, ◌+◌, ◌-◌, ◌^◌, ◌∙◌, ◌∷◌, ◌≡◌, ◌≤◌}
-use Rattle.{sim_live.specs.declared.relaying.RelayRules.RelayRules, sim_plain.specs.Messages.Arrival, sim_plain.specs.Server.Server}
-use Rattle.{sim_plain.specs.Server.server_after, sim_plain.specs.declared.rules.Rules.Rules, sim_report.specs.Downs.released_line}
-use Rattle.{sim_store.specs.declared.fault.Failed.Failed, sim_talk.proofs.Talking.unheard_behind, sim_talk.proofs.Talking.unmade_answer}
-use Rattle.{sim_talk.proofs.Talking.untold_answer, std.specs.Io.KnownBytes.IsAtEnd, std.specs.Prelude.⊤}
+use Rattle.sim_talk.{proofs.Talking.{unheard_behind, unmade_answer, untold_answer}, specs.declared.fault.TalkFault.TalkFault}
+use Rattle.sim_talk.specs.{Dialogues.{after_lines, Causes, dialogue, EndsAs, TellsText}, Talks.{Extends, heard, Hears, History, Tells, told}}
+use Rattle.std.proofs.Common.{ap, arith, Err, length, length-append, List, Ok, refl, Result, subst, sym, ℕ, [], ◌++◌, ◌+◌, ◌-◌, ◌^◌, ◌∙◌, ◌∷◌, ◌≡◌, ◌≤◌}
+use Rattle.std.specs.{Io.KnownBytes.IsAtEnd, Prelude.⊤}
 
 -- some lines were answered, and the server stands for all that has arrived
 pub record HasAnswered (relay : RelayRules) (server : View) (count before : ℕ) (old new : History) : Type 0 where

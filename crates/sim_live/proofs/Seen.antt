@@ -1,14 +1,12 @@
 -- What is seen of a client in memory is what is told of the one that has a past; so what is answered to a look is what the session shows.
 use Rattle.sim_live.specs.declared.look.Look.TheVariants as look
-use Rattle.sim_base.specs.{Limits.IsFrom, declared.setup.Setup.Setup, declared.state.State.State}
-use Rattle.sim_live.specs.{Looks.IsLook, Shown.look_text, Shown.shown_as, Shown.told_as, declared.look.Look.Look}
-use Rattle.sim_session.proofs.Seeing.{end_same, endings_same, frames_are, pipes_same, state_same}
-use Rattle.sim_session.specs.{Endings.end_line, Endings.end_of, Endings.pipe_lines, Laws.ending_lines, Laws.state_at, Seen.end_seen, Seen.ending_seen}
-use Rattle.sim_session.specs.{Seen.pipes_seen, Served.kept_lines, Standing.Seen, Standing.StandsFor, Standing.life_of, declared.ending.End.End}
-use Rattle.sim_wire.specs.Reading.{IsDownFrame, IsUpFrame, down_frame, up_frame}
-use Rattle.std.proofs.Common.{List, Option, ap, arith, subst, sym, ℕ, ◌++◌, ◌∙◌, ◌≡◌}
-use Rattle.{sim_client.specs.ClientWords.state_of, sim_client.specs.Lives.Life, sim_pipes.specs.Pipes.Held, sim_pipes.specs.Pipes.pipe_in}
+use Rattle.{sim_base.specs.{declared.{setup.Setup.Setup, state.State.State}, Limits.IsFrom}, sim_client.specs.{ClientWords.state_of, Lives.Life}}
+use Rattle.{sim_live.specs.{declared.look.Look.Look, Looks.IsLook, Shown.{look_text, shown_as, told_as}}, sim_pipes.specs.Pipes.{Held, pipe_in}}
 use Rattle.{sim_plain.specs.Server.Server, sim_plain_session.specs.Sessions.Session, sim_report.specs.Downs.released_line, sim_server.specs.Standing.server_of}
+use Rattle.sim_session.proofs.Seeing.{end_same, endings_same, frames_are, pipes_same, state_same}
+use Rattle.sim_session.specs.{declared.ending.End.End, Endings.{end_line, end_of, pipe_lines}, Laws.{ending_lines, state_at}}
+use Rattle.sim_session.specs.{Seen.{end_seen, ending_seen, pipes_seen}, Served.kept_lines, Standing.{life_of, Seen, StandsFor}}
+use Rattle.{sim_wire.specs.Reading.{down_frame, IsDownFrame, IsUpFrame, up_frame}, std.proofs.Common.{ap, arith, List, Option, subst, sym, ℕ, ◌++◌, ◌∙◌, ◌≡◌}}
 
 -- ---- what is answered to a look
 

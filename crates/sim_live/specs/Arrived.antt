@@ -1,10 +1,9 @@
 -- What arrives by a line.
 use Rattle.sim_lists.specs.declared.schedule.Said.TheVariants as said
 use Rattle.sim_plain.specs.Messages as plain
-use Rattle.std.specs.Prelude.{List, None, Option, Some, option_and_then, ℕ}
 use Rattle.{serde_json.specs.Data.Data, sim_base.specs.Limits.IsFrom, sim_json.specs.Values.value_of, sim_lists.specs.Arrivals.arrival_of}
-use Rattle.{sim_lists.specs.declared.schedule.Arrival.Arrival, sim_lists.specs.declared.schedule.Said.Said, sim_live.specs.declared.arriving.Arriving.Arriving}
-use Rattle.{sim_live.specs.declared.arriving.Arriving.TheVariants.Cut, sim_live.specs.declared.arriving.Arriving.TheVariants.Frame, sim_wire.specs.Memory.raw}
+use Rattle.{sim_lists.specs.declared.schedule.{Arrival.Arrival, Said.Said}, sim_live.specs.declared.arriving.Arriving.{Arriving, TheVariants.{Cut, Frame}}}
+use Rattle.{sim_wire.specs.Memory.raw, std.specs.Prelude.{List, None, Option, option_and_then, Some, ℕ}}
 
 -- an arrival that is no message in words
 abbrev pub told_by : ℕ → Said → Option Arriving

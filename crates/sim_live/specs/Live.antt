@@ -1,13 +1,11 @@
 -- A session as a talk: what is answered to a line after the steps that were made, and what a whole talk is.
-use Rattle.sim_live.specs.declared.line.Line.{Line, TheVariants.Look, TheVariants.Other, TheVariants.Step}
+use Rattle.{sim_json.specs.{Commands.next_or, Values.value_of}, sim_lists.specs.StepLists.{IsStep, step_of}}
+use Rattle.{sim_live.specs.declared.line.Line.{Line, TheVariants.{Look, Other, Step}}, sim_plain_session.specs.Sessions.{events, session, start_events}}
+use Rattle.sim_session.specs.{Laws.{ending_lines, lines_of}, Standing.{Seen, StandsFor}}
+use Rattle.sim_talk.specs.{declared.fault.TalkFault.TalkFault, Dialogues.{after_lines, AnswersLines, Converses}, Marks.{ok_line, refused_line}, Talks.History}
+use Rattle.std.specs.Prelude.{Err, length, List, None, Ok, Option, Result, Some, ℕ, ⊤, [], ◌++◌, ◌+◌, ◌∷◌}
 use Rattle.sim_live.specs.{Looks.IsLook, Looks.look_of, Shown.look_text, declared.look.Look.Look as AnyLook}
-use Rattle.sim_plain_session.specs.Sessions.{events, session, start_events}
-use Rattle.sim_session.specs.{Laws.ending_lines, Laws.lines_of, Standing.Seen, Standing.StandsFor}
-use Rattle.sim_talk.specs.{Dialogues.AnswersLines, Dialogues.Converses, Dialogues.after_lines, Marks.ok_line, Marks.refused_line, Talks.History}
-use Rattle.std.specs.Prelude.{Option, Result, Some, [], length, ℕ, ⊤, ◌++◌, ◌+◌, ◌∷◌}
 use Rattle.{serde_json.specs.Data.Data, sim_base.specs.declared.setup.Setup.Setup, sim_base.specs.declared.step.Step.Step as AnyStep}
-use Rattle.{sim_json.specs.Commands.next_or, sim_json.specs.Values.value_of, sim_lists.specs.StepLists.IsStep, sim_lists.specs.StepLists.step_of}
-use Rattle.{sim_talk.specs.declared.fault.TalkFault.TalkFault, std.specs.Prelude.Err, std.specs.Prelude.List, std.specs.Prelude.None, std.specs.Prelude.Ok}
 
 -- What a line of a talk asks for.
 

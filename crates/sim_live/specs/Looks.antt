@@ -1,9 +1,8 @@
 -- Lines that only look, as JSON spells them: a word, the client that it is about, and behind `state` maybe a name, which is for who
 -- keeps the bytes.
-use Rattle.sim_live.specs.declared.look.Look.{Look, TheVariants.Digest, TheVariants.Kept, TheVariants.Pipes, TheVariants.Show, TheVariants.State}
-use Rattle.std.specs.Prelude.{[], codes, if◌then◌else◌, List, None, Option, option_and_then, Some, ℕ, ◌∷◌}
-use Rattle.{serde_json.specs.Data.Data, sim_base.specs.Limits.IsFrom, std.specs.Str.bytes_eq}
-use Rattle.{serde_json.specs.Find.as_str, sim_json.specs.Commands.next_or, sim_json.specs.Values.list_of, sim_json.specs.Values.natural_in}
+use Rattle.{serde_json.specs.{Data.Data, Find.as_str}, sim_base.specs.Limits.IsFrom, sim_json.specs.{Commands.next_or, Values.{list_of, natural_in}}}
+use Rattle.sim_live.specs.declared.look.Look.{Look, TheVariants.{Digest, Kept, Pipes, Show, State}}
+use Rattle.std.specs.{Prelude.{codes, if◌then◌else◌, List, None, Option, option_and_then, Some, ℕ, [], ◌∷◌}, Str.bytes_eq}
 
 -- a look at the server or at the pipes
 abbrev pub bare_look : List ℕ → Option Look

@@ -1,11 +1,10 @@
 -- The server as a talk: what is answered to a line behind all that has arrived, and what a whole talk is.
-use Rattle.sim_plain.specs.{Server.Server, Server.posts_of, Server.server_after, declared.message.PostOf.PostOf, declared.rules.Rules.Rules}
-use Rattle.sim_talk.specs.{Dialogues.AnswersLines, Dialogues.Converses, Dialogues.after_lines, Marks.ok_line, Marks.refused_line, Talks.History}
-use Rattle.std.specs.Prelude.{None, Ok, Option, Result, Some, [], codes, decimal, flat_map, length, ℕ, ⊤, ◌++◌, ◌+◌, ◌∷◌, ◌≡◌, ◌≤◌}
-use Rattle.{hex.specs.Hex.encode_lower, sim_base.specs.Limits.IsFrom, sim_live.specs.Arrived.arriving_of, sim_live.specs.Arrived.plain_of}
-use Rattle.{sim_live.specs.declared.arriving.Arriving.Arriving, sim_live.specs.declared.relaying.RelayRules.RelayRules, sim_plain.specs.Messages.Arrival}
-use Rattle.{sim_report.specs.Downs.released_line, sim_server.specs.Standing.StandsFor, sim_server.specs.Standing.View, sim_session.specs.Served.kept_lines}
-use Rattle.{sim_talk.specs.declared.fault.TalkFault.TalkFault, sim_wire.specs.Reading.down_frame, std.specs.Prelude.Err, std.specs.Prelude.List}
+use Rattle.{hex.specs.Hex.encode_lower, sim_base.specs.Limits.IsFrom, sim_live.specs.Arrived.{arriving_of, plain_of}}
+use Rattle.{sim_live.specs.declared.{arriving.Arriving.Arriving, relaying.RelayRules.RelayRules}, sim_plain.specs.declared.message.PostOf.PostOf}
+use Rattle.{sim_plain.specs.{declared.rules.Rules.Rules, Messages.Arrival, Server.{posts_of, Server, server_after}}, sim_report.specs.Downs.released_line}
+use Rattle.{sim_server.specs.Standing.{StandsFor, View}, sim_session.specs.Served.kept_lines, sim_talk.specs.declared.fault.TalkFault.TalkFault}
+use Rattle.{sim_talk.specs.{Dialogues.{after_lines, AnswersLines, Converses}, Marks.{ok_line, refused_line}, Talks.History}, sim_wire.specs.Reading.down_frame}
+use Rattle.std.specs.Prelude.{codes, decimal, Err, flat_map, length, List, None, Ok, Option, Result, Some, ℕ, ⊤, [], ◌++◌, ◌+◌, ◌∷◌, ◌≡◌, ◌≤◌}
 
 -- who gets a message, and its frame
 abbrev pub frame_line : PostOf (List ℕ) → List ℕ

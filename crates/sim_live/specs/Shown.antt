@@ -1,10 +1,9 @@
 -- What is answered to a look at a session.
 use Rattle.sim_live.specs.declared.look.Look.TheVariants as look
-use Rattle.sim_session.specs.{Endings.end_line, Endings.end_of, Endings.of_client, Endings.pipe_lines, Laws.server_lines, Laws.state_at}
-use Rattle.std.specs.Prelude.{codes, ℕ, ◌++◌}
-use Rattle.{hex.specs.Hex.encode_lower, sim_base.specs.Spelling.spelling, sim_base.specs.declared.setup.Setup.Setup, sim_base.specs.declared.state.State.State}
+use Rattle.{hex.specs.Hex.encode_lower, sim_base.specs.{declared.{setup.Setup.Setup, state.State.State}, Spelling.spelling}}
 use Rattle.{sim_live.specs.declared.look.Look.Look, sim_plain_session.specs.Sessions.Session, sim_report.specs.Show.show_text}
-use Rattle.{sim_session.specs.declared.ending.End.End, std.specs.Prelude.List, std.specs.Prelude.None, std.specs.Prelude.Option, std.specs.Prelude.Some}
+use Rattle.sim_session.specs.{declared.ending.End.End, Endings.{end_line, end_of, of_client, pipe_lines}, Laws.{server_lines, state_at}}
+use Rattle.std.specs.Prelude.{codes, List, None, Option, Some, ℕ, ◌++◌}
 
 -- a client that has a state, row by row; any other as it would be in the end
 abbrev pub shown_as : Setup → ℕ → End → Option State → List ℕ

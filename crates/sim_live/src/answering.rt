@@ -8,11 +8,10 @@ ghost use Rattle.{sim_plain_session.specs.Sessions.events as events_in, sim_plai
 
 use crate::line::{Line, line_of};
 use crate::looking::push_look;
-use sim_base::{OutOfMemory, Step};
+use sim_base::{Global, OutOfMemory, Step};
 use sim_session::{Session, push_events};
 use sim_system::System;
 use sim_talk::{push_ok, push_refused};
-use std::alloc::Global;
 
 /// What is answered to a line after so many steps, and how many there are behind it.
 pub fn answer(

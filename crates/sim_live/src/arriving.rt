@@ -6,11 +6,10 @@ ghost use Rattle.sim_live.specs.{Arrived.arriving_of as arriving_of_bytes, Arriv
 ghost use Rattle.std.specs.Prelude.{◌≡◌, IfSome};
 
 use serde_json::Value;
-use sim_base::OutOfMemory;
+use sim_base::{Global, OutOfMemory};
 use sim_json::value_of;
 use sim_lists::{Arrival, Said, arrival_of};
 use sim_wire::Bytes;
-use std::alloc::Global;
 
 /// What arrives at the server, and from which client.
 #[derive(Debug, Drop)]

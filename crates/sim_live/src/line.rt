@@ -1,14 +1,12 @@
 //! What a line asks for: a step of the session, or a look at it. Any other line asks for nothing.
 
-ghost use Rattle.serde_json.specs.View.{view};
-ghost use Rattle.sim_live.specs.{Live.IsLine, Live.line_in as line_in_data, Live.line_of as line_of_bytes, Reading.Reads};
+ghost use Rattle.{serde_json.specs.View.view, sim_live.specs.{Live.{IsLine, line_in as line_in_data, line_of as line_of_bytes}, Reading.Reads}};
 
 use crate::look::{Look, look_of};
 use serde_json::Value;
-use sim_base::{OutOfMemory, Step};
+use sim_base::{Global, OutOfMemory, Step};
 use sim_json::value_of;
 use sim_lists::step_of;
-use std::alloc::Global;
 
 /// What a line asks for.
 #[derive(Debug, Drop)]

@@ -1,19 +1,17 @@
 //! The whole talk: the session begins, each line is answered before the next one is heard, and at the end of the input it is told what
 //! the session has come to. However it ends, all that was told is written then.
 
-ghost use Rattle.std.specs.Prelude.{[], List, ◌≡◌, ◌≤◌};
-ghost use Rattle.sim_session.specs.Going.{ComeBack, GoesOn, HasOpened, IsSession, Keeps, MayBegin, seen_in, setup_in};
-ghost use Rattle.sim_talk.specs.Dialogues.{Causes, TellsText};
-ghost use Rattle.{sim_base.specs.declared.step.Step.Step as AnyStep, sim_live.specs.Live.AnswersAll, sim_live.specs.Live.Lives, sim_live.specs.Live.first_text};
-ghost use Rattle.{sim_live.specs.Live.last_text, sim_plain_session.specs.Sessions.session as session_over, sim_session.specs.Standing.StandsFor};
+ghost use Rattle.{sim_base.specs.declared.step.Step.Step as AnyStep, sim_live.specs.Live.{AnswersAll, first_text, last_text, Lives}};
+ghost use Rattle.{sim_plain_session.specs.Sessions.session as session_over, sim_session.specs.Going.{ComeBack, GoesOn, HasOpened, IsSession, Keeps, MayBegin}};
+ghost use Rattle.{sim_session.specs.{Going.{seen_in, setup_in}, Standing.StandsFor}, sim_talk.specs.Dialogues.{Causes, TellsText}};
+ghost use Rattle.std.specs.Prelude.{List, [], ◌≡◌, ◌≤◌};
 
 use crate::answering::answer;
-use sim_base::{OutOfMemory, Setup};
+use sim_base::{Global, OutOfMemory, Setup};
 use sim_orders::OrderTable;
 use sim_session::{Session, push_ending, push_starts};
 use sim_system::{Rig, System};
 use sim_talk::{Talk, TalkFault, settled};
-use std::alloc::Global;
 
 /// Talks over a session of the match, of whose clients so many are on in the beginning. Client c has the c-th of eight cleared rigs. All
 /// rigs come back in their order, however the talk ended.

@@ -1,10 +1,9 @@
 //! What is answered to a look. A client that is not on has no state, and is told as it would be in the end.
 
+ghost use Rattle.{sim_base.specs.Limits.IsValid, sim_client.specs.ClientWords.{life, state_of}};
+ghost use Rattle.{sim_live.specs.{Looks.IsLook, Shown.{bytes_line, look_text, shown_as, told_as}}, sim_plain_session.specs.Sessions.Session as PlainSession};
+ghost use Rattle.sim_session.specs.{Going.{IsSession, seen_in, setup_in}, Seen.{end_seen, IsMember}, Standing.StandsFor};
 ghost use Rattle.std.specs.Prelude.{OnOk, string_bytes, ◌++◌, ◌≡◌};
-ghost use Rattle.sim_live.specs.Shown.{bytes_line, look_text, shown_as, told_as};
-ghost use Rattle.sim_session.specs.{Going.setup_in, Seen.IsMember, Seen.end_seen, Standing.StandsFor};
-ghost use Rattle.{sim_base.specs.Limits.IsValid, sim_client.specs.ClientWords.life, sim_client.specs.ClientWords.state_of, sim_live.specs.Looks.IsLook};
-ghost use Rattle.{sim_plain_session.specs.Sessions.Session as PlainSession, sim_session.specs.Going.IsSession, sim_session.specs.Going.seen_in};
 
 use crate::look::Look;
 use sim_base::{OutOfMemory, Setup, State};

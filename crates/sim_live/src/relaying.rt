@@ -1,18 +1,16 @@
 //! The whole talk with the server: it begins, each line is answered before the next one is heard, and at the end of the input it is told what
 //! the server has come to. However it ends, all that was told is written then.
 
+ghost use Rattle.{sim_live.specs.Relays.{AnswersAll, end_lines, IsRelay, Relays, rules_of}, sim_report.specs.Downs.released_line};
+ghost use Rattle.{sim_server.specs.Standing.{IsSmallServer, server_of, StandsFor}, sim_talk.specs.Dialogues.{Causes, TellsText}};
 ghost use Rattle.std.specs.Prelude.{[], ◌≡◌};
-ghost use Rattle.sim_live.specs.Relays.{AnswersAll, IsRelay, Relays, end_lines, rules_of};
-ghost use Rattle.{sim_report.specs.Downs.released_line, sim_server.specs.Standing.IsSmallServer, sim_server.specs.Standing.StandsFor};
-ghost use Rattle.{sim_server.specs.Standing.server_of, sim_talk.specs.Dialogues.Causes, sim_talk.specs.Dialogues.TellsText};
 
 use crate::replying::reply;
-use sim_base::OutOfMemory;
+use sim_base::{Global, OutOfMemory};
 use sim_report::push_released;
 use sim_server::Server;
 use sim_session::push_all_kept;
 use sim_talk::{Talk, TalkFault, settled};
-use std::alloc::Global;
 
 /// What a server must know of the match of its clients: of so many clients, so many of whom are in it from the beginning, with its delay
 /// and its turns.

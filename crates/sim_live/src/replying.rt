@@ -1,19 +1,17 @@
 //! What is answered to a line: a line of each message that the server says at the arrival, as the frame in which it goes.
 
-ghost use Rattle.std.specs.Prelude.{All, flat_map, IfOk, length, List, OnOk, string_bytes, ℕ, ◌++◌, ◌+◌, ◌<◌, ◌^◌, ◌≡◌, ◌≤◌};
-ghost use Rattle.sim_live.specs.{Answering.Counts, Answering.Says, Answering.StaysSmall, Arrived.IsFromOne, Arrived.plain_of, Relays.answer as answer_of};
-ghost use Rattle.sim_server.specs.Standing.{IsClient, IsSmallServer, StandsFor, server_of};
+ghost use Rattle.sim_live.specs.{Answering.{Counts, Says, StaysSmall}, Arrived.{IsFromOne, plain_of}, Relays.{answer as answer_of, frame_line, next}};
+ghost use Rattle.{sim_plain.specs.Messages.Arrival as PlainArrival, sim_server.specs.Standing.{IsClient, IsSmallServer, server_of, StandsFor}};
 ghost use Rattle.sim_wire.specs.{Memory.raw, Reading.IsSmallDown};
-ghost use Rattle.{sim_live.specs.Relays.frame_line, sim_live.specs.Relays.next, sim_plain.specs.Messages.Arrival as PlainArrival};
+ghost use Rattle.std.specs.Prelude.{All, flat_map, IfOk, length, List, OnOk, string_bytes, ℕ, ◌++◌, ◌+◌, ◌<◌, ◌^◌, ◌≡◌, ◌≤◌};
 
 use crate::arriving::{Arriving, arriving_of};
-use sim_base::OutOfMemory;
+use sim_base::{Global, OutOfMemory};
 use sim_bytes::push_hex;
 use sim_plain::PostOf;
 use sim_server::{Posts, Server};
 use sim_talk::{push_ok, push_refused};
 use sim_wire::{Bytes, frame_down};
-use std::alloc::Global;
 
 /// What is answered to a line after so many arrivals, and how many there are behind it.
 pub fn reply(

@@ -1,12 +1,11 @@
 -- A sound tree laid over a resolved one is resolved: it ascends by name, has no marks, and has no more levels.
-use Rattle.sim_base.proofs.Tests.{left_true, right_true}
-use Rattle.sim_merge.proofs.ChildrenLemmas.{are_sound-rest, is_least-before, is_least-rest, is_sound-first}
-use Rattle.sim_merge.proofs.Common.{Children, Disable, false, followed_by, if◌then◌else◌, inherited, is_before, is_layable, is_least, is_none, is_plain}
-use Rattle.sim_merge.proofs.Common.{Replace, slice_get, Some, subst, suc, sum_of, sym, there, Tokens, TreeMark, true, true≢false, under, Value, value_of}
-use Rattle.sim_merge.proofs.Common.{[], absent, Add, are_plain, are_sound, arith, bears, before, behind, Bool, bytes_eq, chain_root, child, child_named}
-use Rattle.sim_merge.proofs.Common.{is_resolved, is_sound, laid, laid_under, laid_unmarked, Laying, levels, levels_under, List, list_all, lower_children}
-use Rattle.sim_merge.proofs.Common.{lower_value, mark_of, Merge, Mul, nat_le, no_children, Node, node, None, Option, over_children, product_of, refl, refused}
-use Rattle.sim_merge.proofs.Common.{value_over, with_laid, with_lower, with_value, words_over, zero, ℕ, ◌&&◌, ◌∙◌, ◌∷◌, ◌≡◌, ◌≤◌}
+use Rattle.{sim_base.proofs.Tests.{left_true, right_true}, sim_merge.proofs.ChildrenLemmas.{are_sound-rest, is_least-before, is_least-rest, is_sound-first}}
+use Rattle.sim_merge.proofs.Common.{absent, Add, are_plain, are_sound, arith, bears, before, behind, Bool, bytes_eq, chain_root, child, child_named, Children}
+use Rattle.sim_merge.proofs.Common.{Disable, false, followed_by, if◌then◌else◌, inherited, is_before, is_layable, is_least, is_none, is_plain, is_resolved}
+use Rattle.sim_merge.proofs.Common.{is_sound, laid, laid_under, laid_unmarked, Laying, levels, levels_under, List, list_all, lower_children, lower_value}
+use Rattle.sim_merge.proofs.Common.{mark_of, Merge, Mul, nat_le, no_children, Node, node, None, Option, over_children, product_of, refl, refused, Replace}
+use Rattle.sim_merge.proofs.Common.{slice_get, Some, subst, suc, sum_of, sym, there, Tokens, TreeMark, true, true≢false, under, Value, value_of, value_over}
+use Rattle.sim_merge.proofs.Common.{with_laid, with_lower, with_value, words_over, zero, ℕ, [], ◌&&◌, ◌∙◌, ◌∷◌, ◌≡◌, ◌≤◌}
 use Rattle.std.proofs.lemmas.Bool.{and_from, le-leb, leb-true}
 
 -- ---- what a resolved tree meets, with so many levels at most

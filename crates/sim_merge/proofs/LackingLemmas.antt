@@ -1,7 +1,6 @@
 -- A set of what a list lacks of some words, while one word after another is put behind the list.
-use Rattle.sim_merge.proofs.Common.{including, list_any, list_any-append, sym, TellsLacking, ◌∙◌}
-use Rattle.sim_merge.proofs.Common.{◌≡◌, ℕ, Bool, true, false, not, ◌&&◌, ◌||◌, List, [], ◌∷◌, ◌++◌, if◌then◌else◌, bytes_eq, refl, ap, bytes_eq-Decides}
-use Rattle.sim_base.proofs.Tests.{or_false}
+use Rattle.{sim_base.proofs.Tests.or_false, sim_merge.proofs.Common.{ap, Bool, bytes_eq, bytes_eq-Decides, false, if◌then◌else◌, including, List, list_any}}
+use Rattle.sim_merge.proofs.Common.{list_any-append, not, refl, sym, TellsLacking, true, ℕ, [], ◌&&◌, ◌++◌, ◌||◌, ◌∙◌, ◌∷◌, ◌≡◌}
 
 -- ---- whether a word is in a list
 

@@ -1,14 +1,13 @@
 -- What is laid over a tree has at each path what the map from paths says.
 use Rattle.sim_base.proofs.Tests.{left_true, right_true}
 use Rattle.sim_merge.proofs.ChildrenLemmas.{are_sound-rest, child_named-least, is_before-asym, is_before-irrefl, is_before-total, is_least-before}
-use Rattle.sim_merge.proofs.Common.{Laying, laying_at, List, lower_children, lower_value, Merge, Mul, no_children, Node, node, None, Option, over_children}
-use Rattle.sim_merge.proofs.Common.{Path, Paths, paths_if, plain, product_of, refl, refused, Replace, root_by, root_mark, root_value, root_with, Some, subst}
-use Rattle.sim_merge.proofs.Common.{[], absent, Add, ap, are_plain, are_sound, at, at_child, at_if, before, behind, below, below_if, Bool, bytes_eq}
-use Rattle.sim_merge.proofs.Common.{bytes_eq-Decides, child, child_named, Children, cond-false, cond-true, Disable, Entry, false, false_from_ne_true}
-use Rattle.sim_merge.proofs.Common.{followed_by, fun_ext, if◌then◌else◌, is_before, is_least, is_none, is_plain, is_some, is_sound, laid, laid_under, lay}
-use Rattle.sim_merge.proofs.Common.{sum_of, sym, there, Tokens, TreeMark, true, true≢false, under, unmarked_below, Value, value_of, value_over, with_laid}
-use Rattle.sim_merge.proofs.{ChildrenLemmas.is_least-rest, ChildrenLemmas.is_sound-first, Common.with_lower, Common.with_value, Common.words_over, Common.ℕ}
-use Rattle.sim_merge.proofs.{Common.◌∙◌, Common.◌∷◌, Common.◌≡◌, FitLemmas.IfNode}
+use Rattle.sim_merge.proofs.{ChildrenLemmas.{is_least-rest, is_sound-first}, Common.{absent, Add, ap, are_plain, are_sound, at, at_child, at_if, before}}
+use Rattle.sim_merge.proofs.Common.{behind, below, below_if, Bool, bytes_eq, bytes_eq-Decides, child, child_named, Children, cond-false, cond-true, Disable}
+use Rattle.sim_merge.proofs.Common.{Entry, false, false_from_ne_true, followed_by, fun_ext, if◌then◌else◌, is_before, is_least, is_none, is_plain, is_some}
+use Rattle.sim_merge.proofs.Common.{is_sound, laid, laid_under, lay, Laying, laying_at, List, lower_children, lower_value, Merge, Mul, no_children, Node, node}
+use Rattle.sim_merge.proofs.Common.{None, Option, over_children, Path, Paths, paths_if, plain, product_of, refl, refused, Replace, root_by, root_mark}
+use Rattle.sim_merge.proofs.Common.{root_value, root_with, Some, subst, sum_of, sym, there, Tokens, TreeMark, true, true≢false, under, unmarked_below, Value}
+use Rattle.sim_merge.proofs.{Common.{value_of, value_over, with_laid, with_lower, with_value, words_over, ℕ, [], ◌∙◌, ◌∷◌, ◌≡◌}, FitLemmas.IfNode}
 
 -- ---- options
 

@@ -1,14 +1,13 @@
 -- What is laid over a tree is refused exactly where an operation at a met path is.
-use Rattle.sim_merge.proofs.ChildrenLemmas.{are_sound-rest, bytes_eq-before, is_least-rest, is_sound-first}
-use Rattle.sim_merge.proofs.Common.{Path, Paths, paths_if, product_of, refl, refused, Replace, Some, subst, sum_of, sym, there, Tokens, true, true≢false, under}
-use Rattle.sim_merge.proofs.Common.{Value, value_of, value_over, with_laid, with_lower, with_value, ℕ, ⊎_elim, ◌∙◌, ◌∷◌, ◌≡◌, ◌⊎◌}
-use Rattle.sim_merge.proofs.Common.{[], absent, Add, ap, are_sound, at, at_child, at_if, before, behind, below_if, Bool, bytes_eq, bytes_eq-Decides, child}
+use Rattle.{sim_base.proofs.Tests.{left_true, right_true}, sim_merge.proofs.ChildrenLemmas.{are_sound-rest, bytes_eq-before, is_least-rest, is_sound-first}}
+use Rattle.sim_merge.proofs.Common.{absent, Add, ap, are_sound, at, at_child, at_if, before, behind, below_if, Bool, bytes_eq, bytes_eq-Decides, child}
 use Rattle.sim_merge.proofs.Common.{child_named, Children, cond-false, cond-true, Disable, false, false_from_ne_true, fun_ext, HasLaid, inl, inr, is_bad}
 use Rattle.sim_merge.proofs.Common.{is_before, is_layable, is_least, is_none, is_refused_at, is_resolved, is_sound, IsRefused, laid, laid_under, Laying}
 use Rattle.sim_merge.proofs.Common.{laying_at, List, lower_at, lower_children, lower_value, Merge, Mul, no_children, Node, node, None, Option, over_children}
-use Rattle.sim_merge.proofs.PathLemmas.{at_child-named, below_if-paths_if, child_named-behind, lay-laid, merged, named-laid_under, root_value-paths_if}
-use Rattle.sim_merge.proofs.{FitLemmas.IfNode, FitLemmas.fit-is_resolved, FitLemmas.is_sound-layable, PathLemmas.sound-named, PathLemmas.unrefused}
-use Rattle.{sim_base.proofs.Tests.left_true, sim_base.proofs.Tests.right_true, std.proofs.lemmas.Bool.and_right}
+use Rattle.sim_merge.proofs.Common.{Path, Paths, paths_if, product_of, refl, refused, Replace, Some, subst, sum_of, sym, there, Tokens, true, true≢false, under}
+use Rattle.sim_merge.proofs.Common.{Value, value_of, value_over, with_laid, with_lower, with_value, ℕ, ⊎_elim, [], ◌∙◌, ◌∷◌, ◌≡◌, ◌⊎◌}
+use Rattle.sim_merge.proofs.{FitLemmas.{fit-is_resolved, IfNode, is_sound-layable}, PathLemmas.{at_child-named, below_if-paths_if, child_named-behind}}
+use Rattle.{sim_merge.proofs.PathLemmas.{lay-laid, merged, named-laid_under, root_value-paths_if, sound-named, unrefused}, std.proofs.lemmas.Bool.and_right}
 
 -- ---- below a name
 

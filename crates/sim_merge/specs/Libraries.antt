@@ -1,8 +1,6 @@
 -- What a library holds: templates by name, each with its resolved tree.
-use Rattle.std.specs.{Coded.code_by, Coded.Coded, Coded.coded_list, Coded.coded_ℕ, Coded.coded×, List.list_all}
-use Rattle.std.specs.Prelude.{◌≡◌, ℕ, ◌≤◌, Bool, ◌&&◌, List, length, is_none, IsTrue, nat_le, refl}
-use Rattle.sim_merge.specs.NodeCodes.{node_code}
-use Rattle.sim_tree.specs.Trees.{is_plain, is_sound, levels, mark_of, Node}
+use Rattle.{sim_merge.specs.NodeCodes.node_code, sim_tree.specs.Trees.{is_plain, is_sound, levels, mark_of, Node}, std.specs.Coded.code_by}
+use Rattle.std.specs.{Coded.{Coded, coded_list, coded_ℕ, coded×}, List.list_all, Prelude.{Bool, is_none, IsTrue, length, List, nat_le, refl, ℕ, ◌&&◌, ◌≡◌, ◌≤◌}}
 
 -- the names of templates, and beside each name the root of its tree
 pub record Holding : Type 0 where

@@ -1,9 +1,8 @@
 -- A code for nodes, which is a list of steps that build the node: so a proof can tell the values of a library apart.
-use Rattle.std.proofs.Common.{ap, inl, inr, ◌∙◌}
-use Rattle.std.specs.Coded.{code_by, Coded, coded_list, coded_option, coded_ℕ, coded×, coded⊎}
-use Rattle.std.specs.Prelude.{◌≡◌, ℕ, zero, suc, ◌⊎◌, List, [], ◌∷◌, slice_get, Some, None, Option, refl}
-use Rattle.sim_tree.specs.{Trees.child, Trees.Children, Trees.no_children, Trees.Node, Trees.node, declared.tree.TreeMark.TreeMark}
-use Rattle.sim_tree.specs.declared.tree.TreeMark.TheVariants.{Add, Disable, Merge, Mul, Replace, Tokens}
+use Rattle.sim_tree.specs.declared.tree.TreeMark.{TheVariants.{Add, Disable, Merge, Mul, Replace, Tokens}, TreeMark}
+use Rattle.sim_tree.specs.Trees.{child, Children, no_children, Node, node}
+use Rattle.std.{proofs.Common.{ap, inl, inr, ◌∙◌}, specs.Coded.{code_by, Coded, coded_list, coded_option, coded_ℕ, coded×, coded⊎}}
+use Rattle.std.specs.Prelude.{List, None, Option, refl, slice_get, Some, suc, zero, ℕ, [], ◌∷◌, ◌≡◌, ◌⊎◌}
 
 -- ---- a mark as a number
 

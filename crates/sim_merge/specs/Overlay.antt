@@ -2,15 +2,14 @@
 -- which are lists of names, to what stands there.
 use Rattle.sim_merge.specs.declared.fault.MergeFault.TheVariants as merge
 use Rattle.sim_merge.specs.declared.fault.OverlayFault.TheVariants as overlay
-use Rattle.sim_base.specs.{NumberText.in_range, NumberText.number_of, NumberText.text_of, Places.product}
-use Rattle.sim_merge.specs.declared.operation.Operation.{Operation, TheVariants.Product, TheVariants.Sum}
-use Rattle.sim_merge.specs.{Libraries.is_layable, Libraries.is_resolved, declared.fault.MergeFault.MergeFault, declared.fault.OverlayFault.OverlayFault}
-use Rattle.sim_tree.specs.Trees.{Children, Entry, Node, at, child, is_before, is_sound, node, node_of, under, value_of}
-use Rattle.sim_tree.specs.declared.tree.TreeMark.TheVariants.{Add, Disable, Merge, Mul, Replace, Tokens}
-use Rattle.sim_tree.specs.{Tokens.tokens_in, Trees.are_sound, Trees.child_named, Trees.no_children, declared.tree.Tree.Tree, declared.tree.TreeMark.TreeMark}
-use Rattle.std.specs.Prelude.{[], Bool, codes, drop, Err, false, filter, fold, if◌then◌else◌, is_none, is_some, IsTrue, length, List, map, nat_eq, nat_lt, None}
-use Rattle.std.specs.Prelude.{not, Ok, Option, option_and_then, option_map, Result, reverse, Some, true, ℕ, ℤ, ◌&&◌, ◌++◌, ◌+ℤ◌, ◌||◌, ◌∷◌, ◌≡◌}
-use Rattle.std.specs.{Borrow.Bor, List.join_with_byte, List.list_any, List.starts_with, Str.bytes_eq}
+use Rattle.sim_base.specs.{NumberText.{in_range, number_of, text_of}, Places.product}
+use Rattle.sim_merge.specs.declared.{fault.{MergeFault.MergeFault, OverlayFault.OverlayFault}, operation.Operation.{Operation, TheVariants.{Product, Sum}}}
+use Rattle.sim_merge.specs.Libraries.{is_layable, is_resolved}
+use Rattle.sim_tree.specs.{declared.tree.{Tree.Tree, TreeMark.{TheVariants.{Add, Disable, Merge, Mul, Replace, Tokens}, TreeMark}}, Tokens.tokens_in}
+use Rattle.sim_tree.specs.Trees.{are_sound, at, child, child_named, Children, Entry, is_before, is_sound, no_children, Node, node, node_of, under, value_of}
+use Rattle.std.specs.{Borrow.Bor, List.{join_with_byte, list_any, starts_with}, Prelude.Bool}
+use Rattle.std.specs.Prelude.{codes, drop, Err, false, filter, fold, if◌then◌else◌, is_none, is_some, IsTrue, length, List, map, nat_eq, nat_lt, None, not, Ok}
+use Rattle.std.specs.{Prelude.{Option, option_and_then, option_map, Result, reverse, Some, true, ℕ, ℤ, [], ◌&&◌, ◌++◌, ◌+ℤ◌, ◌||◌, ◌∷◌, ◌≡◌}, Str.bytes_eq}
 
 -- What becomes of a value where a node is laid over another one.
 

@@ -1,10 +1,9 @@
 -- The resolved trees of templates, each with all that it inherits, or the first template that has none.
-use Rattle.sim_merge.specs.declared.fault.MergeFault.{MergeFault, TheVariants.BadOp, TheVariants.ChainTooLong, TheVariants.Cycle, TheVariants.NoParent}
-use Rattle.sim_merge.specs.{Libraries.is_resolved, Overlay.Laying, Overlay.absent, Overlay.laid, Overlay.refused, Overlay.there}
-use Rattle.sim_tree.specs.{Nodes.Origin, Nodes.origin_of, Trees.Node, Trees.no_children, Trees.node, Trees.node_of, declared.source.Source.Source}
-use Rattle.std.specs.Prelude.{Bool, Err, false, List, map, None, not, Ok, Option, Result, Some, suc, true, zero, ℕ, ◌&&◌, ◌<◌, ◌==◌, ◌||◌, ◌∷◌, ◌≡◌}
-use Rattle.std.specs.Prelude.{[], filter_map, if◌then◌else◌, is_none, is_some, length, nat_lt, option_and_then, option_map, position, slice_get, slice_index_or}
-use Rattle.{sim_tree.specs.declared.tree.Tree.Tree, std.specs.List.list_all, std.specs.List.list_any, std.specs.List.range_with_len, std.specs.Str.bytes_eq}
+use Rattle.sim_merge.specs.{declared.fault.MergeFault.{MergeFault, TheVariants.{BadOp, ChainTooLong, Cycle, NoParent}}, Libraries.is_resolved, Overlay.absent}
+use Rattle.{sim_merge.specs.Overlay.{laid, Laying, refused, there}, sim_tree.specs.{declared.{source.Source.Source, tree.Tree.Tree}, Nodes.{Origin, origin_of}}}
+use Rattle.{sim_tree.specs.Trees.{no_children, Node, node, node_of}, std.specs.{List.{list_all, list_any, range_with_len}, Prelude.{Bool, Err, false}}}
+use Rattle.std.specs.Prelude.{filter_map, if◌then◌else◌, is_none, is_some, length, List, map, nat_lt, None, not, Ok, Option, option_and_then, option_map}
+use Rattle.std.specs.{Prelude.{position, Result, slice_get, slice_index_or, Some, suc, true, zero, ℕ, [], ◌&&◌, ◌<◌, ◌==◌, ◌||◌, ◌∷◌, ◌≡◌}, Str.bytes_eq}
 
 -- ---- names
 

@@ -1,16 +1,14 @@
 //! Chains of parents: the numbers of parents, and the first template whose chain has no end.
 
-ghost use Rattle.std.specs.Prelude.{IfOk, IfSome, length, List, map, MatchResult, None, OnOk, position, Some, string_bytes, true, ℕ, ◌++◌, ◌<◌, ◌==◌, ◌∷◌, ◌≡◌};
-ghost use Rattle.std.specs.{List.list_any, Prelude.◌≤◌, Str.bytes_eq};
-ghost use Rattle.sim_merge.specs.Resolution.{are_distinct, AreWithin, chain_refusal, ChainMeets, is_orphan as is_orphan_among, IsForest, members, names_in};
-ghost use Rattle.sim_merge.specs.Resolution.{origins_of, orphan_refusal, parent_among, parents_in, repeats as repeats_in};
-ghost use Rattle.{sim_merge.specs.Overlay.IfRefusal, sim_tree.specs.Nodes.origin_of};
+ghost use Rattle.sim_merge.specs.{Overlay.IfRefusal, Resolution.{are_distinct, AreWithin, chain_refusal, ChainMeets, is_orphan as is_orphan_among, IsForest}};
+ghost use Rattle.sim_merge.specs.Resolution.{members, names_in, origins_of, orphan_refusal, parent_among, parents_in, repeats as repeats_in};
+ghost use Rattle.{sim_tree.specs.Nodes.origin_of, std.specs.{List.list_any, Prelude.{IfOk, IfSome, length, List, map, MatchResult, None, OnOk, position}}};
+ghost use Rattle.std.specs.{Prelude.{Some, string_bytes, true, ℕ, ◌++◌, ◌<◌, ◌==◌, ◌∷◌, ◌≡◌, ◌≤◌}, Str.bytes_eq};
 
 use crate::fault::MergeFault;
 use indexmap::IndexSet;
-use sim_base::{Name, OutOfMemory};
+use sim_base::{Global, Name, OutOfMemory};
 use sim_tree::Source;
-use std::alloc::Global;
 
 // How many members of a chain are looked at: one more than it may have.
 const MOST_SEEN: usize = 17;

@@ -1,17 +1,15 @@
 //! Templates beside the numbers of their parents, and how each is resolved: its own tree is laid over that of its parent,
 //! which is resolved before it and kept.
 
-ghost use Rattle.std.specs.Prelude.{[], filter_map, IfErr, IfOk, IsTrue, length, MatchResult, None, OnOk, replicate, slice_get, slice_index_or, Some, true};
-ghost use Rattle.std.specs.{List.cons_option, List.list_all, Prelude.◌++◌, Prelude.◌<◌, Prelude.◌^◌, Prelude.◌≡◌, Prelude.◌≤◌};
+ghost use Rattle.sim_merge.specs.{Libraries.{is_layable, is_resolved}, Overlay.{IfBadOp, IfRefusal, IsTreeOf, refusal_at, refused, there}};
 ghost use Rattle.sim_merge.specs.Resolution.{AreResolved, bare as bare_node, chain_root, Has, inherited, IsForest, IsKept, KeepsAll, layings, members};
-ghost use Rattle.sim_merge.specs.{Libraries.is_layable, Libraries.is_resolved, Overlay.IfBadOp, Overlay.IfRefusal, Overlay.IsTreeOf, Overlay.refusal_at};
-ghost use Rattle.sim_merge.specs.{Overlay.refused, Overlay.there, Resolution.origins_of, Resolution.root_refusal, Resolution.roots_in};
-ghost use Rattle.sim_tree.specs.Trees.{node_of};
+ghost use Rattle.{sim_merge.specs.Resolution.{origins_of, root_refusal, roots_in}, sim_tree.specs.Trees.node_of};
+ghost use Rattle.std.specs.{List.{cons_option, list_all}, Prelude.{filter_map, IfErr, IfOk, IsTrue, length, MatchResult, None, OnOk, replicate, slice_get}};
+ghost use Rattle.std.specs.Prelude.{slice_index_or, Some, true, [], ◌++◌, ◌<◌, ◌^◌, ◌≡◌, ◌≤◌};
 
 use crate::{MergeFault, OverlayFault, overlay};
-use sim_base::OutOfMemory;
+use sim_base::{Global, OutOfMemory};
 use sim_tree::{Source, Tree};
-use std::alloc::Global;
 
 /// Templates and the number of each one's parent: each chain of parents ends, and each own tree may be laid over another.
 #[derive(Drop)]

@@ -12,9 +12,8 @@ use crate::merge::{
 };
 use crate::operation::{Operation, operated_value};
 use crate::words::words_over;
-use sim_base::OutOfMemory;
+use sim_base::{Global, OutOfMemory};
 use sim_tree::{Child, Text, Tree, TreeMark};
-use std::alloc::Global;
 
 /// The upper tree laid over the lower one, by its marks.
 pub fn overlay<'a>(

@@ -17,8 +17,7 @@ pub struct Library<'a> {
 }
 
 impl<'a> Model for Library<'a> {
-    ghost use Rattle.{sim_tree.specs.Trees.node_of, std.specs.Prelude.map, std.specs.Prelude.string_bytes};
-    ghost use Rattle.sim_merge.specs.Libraries.{Holding, holding_code, IsLibrary};
+    ghost use Rattle.{sim_merge.specs.Libraries.{Holding, holding_code, IsLibrary}, sim_tree.specs.Trees.node_of, std.specs.Prelude.{map, string_bytes}};
 
     ghost Value = { Holding };
 

@@ -1,14 +1,12 @@
 //! Children by name: copies of them, and the places that a name has among children that ascend.
 
-ghost use Rattle.std.specs.{Option.option_copied, Prelude.IfOk, Prelude.None, Prelude.OnOk, Prelude.Option, Prelude.Some, Prelude.[], Prelude.true};
-ghost use Rattle.std.specs.{Prelude.◌∷◌, Prelude.◌≡◌, Str.bytes_eq};
 ghost use Rattle.sim_merge.specs.Overlay.{before, behind as nodes_behind, followed_by, is_sound_if, IsPast, laying_of, lower_children, lower_value, node_if};
 ghost use Rattle.sim_merge.specs.Overlay.{with_laid, with_lower};
 ghost use Rattle.sim_tree.specs.Trees.{are_sound, child, child_named, Children, is_before, named_of, no_children, node_of, nodes_of};
+ghost use Rattle.std.specs.{Option.option_copied, Prelude.{IfOk, None, OnOk, Option, Some, true, [], ◌∷◌, ◌≡◌}, Str.bytes_eq};
 
-use sim_base::OutOfMemory;
+use sim_base::{Global, OutOfMemory};
 use sim_tree::{Child, Text, Tree};
-use std::alloc::Global;
 
 /// The children of a tree, and none where there is no tree.
 pub fn children_of<'t, 'a>(tree: Option<&'t Tree<'a>>) -> &'t [Child<'a>]

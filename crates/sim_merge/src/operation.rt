@@ -1,13 +1,11 @@
 //! Sums and products of values, which are read as numbers and printed again.
 
-ghost use Rattle.std.specs.{Option.option_copied, Prelude.IfOk, Prelude.MatchResult, Prelude.None, Prelude.Some, Prelude.◌≡◌};
-ghost use Rattle.sim_base.specs.NumberText.{text_of};
-ghost use Rattle.sim_merge.specs.Overlay.{function_of, IfBadOp, number_by, text_by, value_by};
+ghost use Rattle.{sim_base.specs.NumberText.text_of, sim_merge.specs.Overlay.{function_of, IfBadOp, number_by, text_by, value_by}};
+ghost use Rattle.std.specs.{Option.option_copied, Prelude.{IfOk, MatchResult, None, Some, ◌≡◌}};
 
 use crate::fault::OverlayFault;
-use sim_base::{Fixed, OutOfMemory};
+use sim_base::{Fixed, Global, OutOfMemory};
 use sim_tree::Text;
-use std::alloc::Global;
 
 /// What is made of two numbers.
 #[derive(Clone, Copy, Debug, PartialEq, Eq)]

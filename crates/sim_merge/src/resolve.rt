@@ -1,8 +1,7 @@
 //! Templates with all that they inherit: each tree is laid over that of its parent, parents before children.
 
-ghost use Rattle.std.specs.{List.list_all, Prelude.Err, Prelude.IfErr, Prelude.IfOk, Prelude.IsTrue, Prelude.Ok, Prelude.length, Prelude.◌≡◌, Prelude.◌≤◌};
-ghost use Rattle.sim_merge.specs.Resolution.{resolution_of, roots_in};
-ghost use Rattle.sim_merge.specs.{Libraries.is_layable, Overlay.IfRefusal, Resolution.are_distinct, Resolution.names_in, Resolution.origins_of};
+ghost use Rattle.sim_merge.specs.{Libraries.is_layable, Overlay.IfRefusal, Resolution.{are_distinct, names_in, origins_of, resolution_of, roots_in}};
+ghost use Rattle.std.specs.{List.list_all, Prelude.{Err, IfErr, IfOk, IsTrue, length, Ok, ◌≡◌, ◌≤◌}};
 
 use crate::chains::{check_chains, names_of, parents_of};
 use crate::family::Family;

@@ -5,15 +5,13 @@
 //! each word is looked up in a set and never in a list, and n words take about n steps times their logarithm. The sets are
 //! ordered trees: whoever writes a match picks its words, and could pick ones that a hash with a known seed gives one place.
 
-ghost use Rattle.std.specs.Prelude.{[], drop, false, filter, fold, IfOk, if◌then◌else◌, List, MatchOption, None, not, OnOk, reverse, Some, string_bytes, true};
-ghost use Rattle.std.specs.{BTreeSet.contains_text, List.join_with_byte, List.list_any, Option.option_copied, Prelude.ℕ, Prelude.◌&&◌, Prelude.◌++◌};
-ghost use Rattle.std.specs.{Prelude.◌||◌, Prelude.◌∷◌, Prelude.◌≡◌, Str.bytes_eq};
 ghost use Rattle.sim_merge.specs.Overlay.{AreChanges, including, is_removal, TellsLacking, TellsWords, with_added as with_added_word};
-ghost use Rattle.{sim_merge.specs.Overlay.words_over as words_over_words, sim_tree.specs.Tokens.tokens_in as words_of_value};
+ghost use Rattle.{sim_merge.specs.Overlay.words_over as words_over_words, sim_tree.specs.Tokens.tokens_in as words_of_value, std.specs.BTreeSet.contains_text};
+ghost use Rattle.std.specs.{List.{join_with_byte, list_any}, Option.option_copied, Prelude.{drop, false, filter, fold, IfOk, if◌then◌else◌, List, MatchOption}};
+ghost use Rattle.std.specs.{Prelude.{None, not, OnOk, reverse, Some, string_bytes, true, ℕ, [], ◌&&◌, ◌++◌, ◌||◌, ◌∷◌, ◌≡◌}, Str.bytes_eq};
 
-use sim_base::OutOfMemory;
+use sim_base::{Global, OutOfMemory};
 use sim_tree::{Names, Text, tokens_in};
-use std::alloc::Global;
 use std::collections::BTreeSet;
 
 // What the words of an upper list do to a lower one.

@@ -1,7 +1,6 @@
 -- A share of a difference, up or down.
-use Rattle.sim_laws.proofs.Commanding.{div_below_zero, share_le}
-use Rattle.std.proofs.Common.{ap, arith, int_div, neg_ℤ, negsuc, pos, refl, suc, sym, unsigned_abs, zero, ℕ, ℤ, ◌*ℤ◌, ◌*◌, ◌+ℤ◌, ◌+◌, ◌-ℤ◌, ◌-◌, ◌/◌, ◌<◌, ◌∙◌}
-use Rattle.std.proofs.{Common.◌≡◌, Common.◌≤ℤ◌, Common.◌≤◌, lemmas.Int.ints}
+use Rattle.{sim_laws.proofs.Commanding.{div_below_zero, share_le}, std.proofs.Common.{ap, arith, int_div, neg_ℤ, negsuc, pos, refl, suc, sym, unsigned_abs}}
+use Rattle.std.proofs.{Common.{zero, ℕ, ℤ, ◌*ℤ◌, ◌*◌, ◌+ℤ◌, ◌+◌, ◌-ℤ◌, ◌-◌, ◌/◌, ◌<◌, ◌∙◌, ◌≡◌, ◌≤ℤ◌, ◌≤◌}, lemmas.Int.ints}
 
 pub part_up : (from to : ℤ) (k d : ℕ) → pos 0 ≤ℤ from → pos 0 ≤ℤ to → unsigned_abs from ≤ unsigned_abs to →
     pos (unsigned_abs from + (unsigned_abs to - unsigned_abs from) * k / d) ≡ from +ℤ int_div ((to -ℤ from) *ℤ pos k) (pos d)

@@ -1,10 +1,9 @@
 -- How the code speaks of rows that move.
 use Rattle.sim_base.specs.Ways as ways
-use Rattle.sim_base.specs.declared.{place.Point.Point, setup.Setup.Setup, state.Motion.Motion, state.Motion.TheVariants.Going, state.Motion.TheVariants.Still}
-use Rattle.sim_base.specs.{Limits.IsInside, Turn.along, Turn.along_found, Turn.walked, declared.state.Row.Row}
-use Rattle.sim_motion.specs.declared.chase.Chase.{Chase, TheVariants.Go, TheVariants.Keep, TheVariants.Stay}
-use Rattle.std.specs.Prelude.{Bool, List, None, Option, Some, [], false, true, ℕ, ◌≡◌, ◌⊎◌}
-use Rattle.{sim_motion.specs.declared.course.Course.Course, sim_motion.specs.declared.moves.Moved.Moved, sim_system.specs.declared.Way.Way}
+use Rattle.sim_base.specs.{declared.{place.Point.Point, setup.Setup.Setup, state.{Motion.{Motion, TheVariants.{Going, Still}}, Row.Row}}, Limits.IsInside}
+use Rattle.{sim_base.specs.Turn.{along, along_found, walked}, sim_motion.specs.declared.chase.Chase.{Chase, TheVariants.{Go, Keep, Stay}}}
+use Rattle.{sim_motion.specs.declared.{course.Course.Course, moves.Moved.Moved}, sim_system.specs.declared.Way.Way}
+use Rattle.std.specs.Prelude.{Bool, false, List, None, Option, Some, true, ℕ, [], ◌≡◌, ◌⊎◌}
 
 -- the way that an answer stands for
 abbrev pub way_in : Way → ways.Way

@@ -1,7 +1,6 @@
 //! Where a row goes.
 
-ghost use Rattle.sim_base.specs.Places.{IsPlaced};
-ghost use Rattle.std.specs.Prelude.{All};
+ghost use Rattle.{sim_base.specs.Places.IsPlaced, std.specs.Prelude.All};
 
 use sim_base::Point;
 

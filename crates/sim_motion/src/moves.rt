@@ -9,10 +9,9 @@ ghost use Rattle.{sim_base.specs.declared.state.Motion.TheVariants.Still, sim_pl
 use crate::chase::{Chase, chase_of};
 use crate::course::Course;
 use crate::walk::walk;
-use sim_base::{Items, Motion, OutOfMemory, Point, Row};
+use sim_base::{Global, Items, Motion, OutOfMemory, Point, Row};
 use sim_plans::{RowIndex, Scene};
 use sim_system::{Answer, Ask, System};
-use std::alloc::Global;
 
 /// Where a row has come to, and how it goes on, if not as it went.
 #[derive(Drop)]

@@ -1,15 +1,13 @@
 //! The changes of the phase in which rows move.
 
-ghost use Rattle.std.specs.Prelude.{[], IfOk, IsOk, IsSome, None, OnOk, Some, ◌++◌, ◌≡◌};
-ghost use Rattle.std.specs.Result.{ForOk};
-ghost use Rattle.sim_plans.specs.{Plans.goes_on as goes_on_by, Plans.move_changes_of, Plans.move_plan, Plans.step_changes, SceneWords.Stands};
-ghost use Rattle.{sim_base.specs.Limits.IsKnownRow, sim_base.specs.Turn.moved, sim_motion.specs.Moves.row_moved, sim_plans.specs.Plans.IsPlanOf};
+ghost use Rattle.{sim_base.specs.{Limits.IsKnownRow, Turn.moved}, sim_motion.specs.Moves.row_moved};
+ghost use Rattle.sim_plans.specs.{Plans.{goes_on as goes_on_by, IsPlanOf, move_changes_of, move_plan, step_changes}, SceneWords.Stands};
+ghost use Rattle.std.specs.{Prelude.{IfOk, IsOk, IsSome, None, OnOk, Some, [], ◌++◌, ◌≡◌}, Result.ForOk};
 
 use crate::moves::{Moved, Walker};
-use sim_base::{Change, Changes, Items, Motion, OutOfMemory, Row};
+use sim_base::{Change, Changes, Global, Items, Motion, OutOfMemory, Row};
 use sim_plans::{RowIndex, Scene, same_point, speed_of};
 use sim_system::System;
-use std::alloc::Global;
 
 /// The changes by which rows move, all by the state of the scene. They fit in order, and give the phase.
 pub fn motion_changes(alloc: Global, scene: &Scene<'_>) -> Result<Changes, OutOfMemory>

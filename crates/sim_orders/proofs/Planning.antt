@@ -1,10 +1,9 @@
 -- The plan of a command is what a planner has to answer.
-use Rattle.sim_orders.proofs.Common.{ap, arith, Attack, Cell, centre_of, Change, Command, command_is_own, command_is_planned, command_plan_by, cond-true}
-use Rattle.sim_orders.proofs.Common.{Create, Delete, Fulfils, has_room, id_of, IfOk, is_ordered, IsGiven, IsPermutation, IsPlanned, kind_of, of_answer}
-use Rattle.sim_orders.proofs.Common.{ordered_changes, OutOfMemory, Place, place_changes, plan_for, PlayerCommand, refl, Remove, Resign, Row, row_of, Setup}
-use Rattle.sim_orders.proofs.Common.{spot, spot_for, State, Stop, subst, sym, Task, template_of, Train, train_changes, trains, Walk, ◌∙◌}
-use Rattle.sim_orders.proofs.Common.{◌≡◌, ℕ, Bool, true, cond, ◌&&◌, List, [], ◌∷◌, map, ◌==◌, slice_get, Some, filter, flat_map, Result, option_and_then}
-use Rattle.sim_orders.proofs.Halves.{sorted_order}
+use Rattle.sim_orders.proofs.Common.{ap, arith, Attack, Bool, Cell, centre_of, Change, Command, command_is_own, command_is_planned, command_plan_by, cond}
+use Rattle.sim_orders.proofs.Common.{cond-true, Create, Delete, filter, flat_map, Fulfils, has_room, id_of, IfOk, is_ordered, IsGiven, IsPermutation, IsPlanned}
+use Rattle.sim_orders.proofs.Common.{kind_of, List, map, of_answer, option_and_then, ordered_changes, OutOfMemory, Place, place_changes, plan_for}
+use Rattle.sim_orders.proofs.Common.{PlayerCommand, refl, Remove, Resign, Result, Row, row_of, Setup, slice_get, Some, spot, spot_for, State, Stop, subst, sym}
+use Rattle.sim_orders.proofs.{Common.{Task, template_of, Train, train_changes, trains, true, Walk, ℕ, [], ◌&&◌, ◌==◌, ◌∙◌, ◌∷◌, ◌≡◌}, Halves.sorted_order}
 
 -- changes that are those of the plan of the task's command are as they have to be
 pub plan_is_planned : (kind : ℕ) (task : Task) (changes : List Change) → IsGiven kind task → changes ≡ plan_for task task.command.now →

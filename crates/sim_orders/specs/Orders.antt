@@ -1,11 +1,10 @@
 -- What a planner of commands may be asked, and what it has to answer. All of it is plain data, and knows of no boxes.
-use Rattle.sim_base.specs.declared.command.Command.TheVariants.{Attack, Delete, Place, Resign, Stop, Train, Walk}
-use Rattle.sim_base.specs.declared.{change.Change.Change, command.Command.Command, memory.OutOfMemory.OutOfMemory, place.Cell.Cell, setup.Setup.Setup}
-use Rattle.sim_base.specs.{Commands.commanded_by, Commands.is_placeable, Limits.IsLooselyValid, Rows.row_of, declared.state.Row.Row, declared.state.State.State}
-use Rattle.sim_base.specs.{Commands.is_enemy, Commands.population, Commands.spot, Limits.IsFrom, Limits.IsSetup, Places.is_inside, Rows.size_of}
-use Rattle.sim_plans.{proofs.Applying.all_own_prop, proofs.Applying.plan_prop, specs.Plans.IsOwnChange, specs.Plans.IsPlanOf, specs.Plans.command_plan_by}
-use Rattle.std.specs.Prelude.{[], All, Bool, false, List, None, Option, option_and_then, Result, slice_get, ℕ, ◌==◌, ◌≡◌}
-use Rattle.{sim_orders.specs.declared.help.Help.Help, sim_orders.specs.declared.task.Task.Task, std.specs.Result.ForOk}
+use Rattle.sim_base.specs.{Commands.{commanded_by, is_enemy, is_placeable, population, spot}, declared.change.Change.Change}
+use Rattle.sim_base.specs.declared.{command.Command.{Command, TheVariants.{Attack, Delete, Place, Resign, Stop, Train, Walk}}, memory.OutOfMemory.OutOfMemory}
+use Rattle.sim_base.specs.{declared.{place.Cell.Cell, setup.Setup.Setup, state.{Row.Row, State.State}}, Limits.{IsFrom, IsLooselyValid, IsSetup}}
+use Rattle.{sim_base.specs.{Places.is_inside, Rows.{row_of, size_of}}, sim_orders.specs.declared.{help.Help.Help, task.Task.Task}}
+use Rattle.sim_plans.{proofs.Applying.{all_own_prop, plan_prop}, specs.Plans.{command_plan_by, IsOwnChange, IsPlanOf}}
+use Rattle.std.specs.{Prelude.{All, Bool, false, List, None, Option, option_and_then, Result, slice_get, ℕ, [], ◌==◌, ◌≡◌}, Result.ForOk}
 use mathlib.Core.HLevel.{Π_prop}
 
 -- What a planner of commands is told of the systems' answers.

@@ -1,15 +1,12 @@
 //! The changes of the rows that a command orders, row by row.
 
-ghost use Rattle.std.specs.List.{flat_map};
-ghost use Rattle.std.specs.Prelude.{[], filter, IfOk, if◌then◌else◌, IsOk, map, None, OnOk, ◌++◌, ◌==◌, ◌∷◌, ◌≡◌};
-ghost use Rattle.sim_base.specs.{Commands.is_ordered, Rows.id_of, declared.change.Change.TheVariants.Owner, declared.change.Change.TheVariants.Remove};
-ghost use Rattle.sim_plans.specs.Plans.{set_on_changes, stop_changes};
-ghost use Rattle.{sim_base.specs.declared.state.Row.Row as AnyRow, sim_orders.specs.Orders.OwnsNone, sim_plans.specs.Plans.sent_changes};
+ghost use Rattle.sim_base.specs.{Commands.is_ordered, declared.{change.Change.TheVariants.{Owner, Remove}, state.Row.Row as AnyRow}, Rows.id_of};
+ghost use Rattle.{sim_orders.specs.Orders.OwnsNone, sim_plans.specs.Plans.{sent_changes, set_on_changes, stop_changes}};
+ghost use Rattle.std.specs.{List.flat_map, Prelude.{filter, IfOk, if◌then◌else◌, IsOk, map, None, OnOk, [], ◌++◌, ◌==◌, ◌∷◌, ◌≡◌}};
 
 use crate::named::Named;
-use sim_base::{Change, Changes, Items, Motion, OutOfMemory, Point, Row};
+use sim_base::{Change, Changes, Global, Items, Motion, OutOfMemory, Point, Row};
 use sim_plans::{push_stance, push_stand};
-use std::alloc::Global;
 
 /// The player's rows that are named are sent to a point.
 pub fn sent(

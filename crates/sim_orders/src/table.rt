@@ -1,15 +1,13 @@
 //! The table of the stored planners, and the help that it makes for them.
 
+ghost use Rattle.{sim_base.specs.Limits.IsFrom, sim_orders.specs.Orders.{Fulfils, fulfils_prop, IsGiven, Obeys}, sim_plans.specs.SceneWords.Stands};
 ghost use Rattle.std.specs.Prelude.{count_by, ℕ, ◌<◌, ◌==◌, ◌≡◌, ◌≤◌};
-ghost use Rattle.{sim_base.specs.Limits.IsFrom, sim_orders.specs.Orders.Fulfils, sim_orders.specs.Orders.IsGiven, sim_orders.specs.Orders.Obeys};
-ghost use Rattle.{sim_orders.specs.Orders.fulfils_prop, sim_plans.specs.SceneWords.Stands};
 
 use crate::asks::help_of;
 use crate::{Task, kind_of};
-use sim_base::{Changes, OutOfMemory, PlayerCommand};
+use sim_base::{Changes, Global, OutOfMemory, PlayerCommand};
 use sim_plans::Scene;
 use sim_system::System;
-use std::alloc::Global;
 
 /// A planner as it is stored.
 pub type Planner = Box<dyn Fn(Global, &Task<'_>) -> Result<Changes, OutOfMemory>>;

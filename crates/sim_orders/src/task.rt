@@ -1,18 +1,18 @@
 //! The task of a planner, and how the usual planner does it: by a method for each kind of command. Whether there is anything to
 //! change is asked before memory is taken.
 
-ghost use Rattle.std.specs.Prelude.{[], IfOk, IsOk, ◌∷◌, ◌≡◌};
-ghost use Rattle.sim_base.specs.declared.change.Change.TheVariants.{Create};
-ghost use Rattle.sim_base.specs.declared.command.Command.TheVariants.{Attack, Delete, Place, Resign, Stop, Train, Walk};
+ghost use Rattle.sim_base.specs.declared.{change.Change.TheVariants.Create, command.Command.TheVariants.{Attack, Delete, Place, Resign, Stop, Train, Walk}};
 ghost use Rattle.sim_orders.specs.Orders.{Fulfils, IsGiven, kind_of, NeedsNoMemory, plan_for};
+ghost use Rattle.std.specs.Prelude.{IfOk, IsOk, [], ◌∷◌, ◌≡◌};
 
 use crate::checks::{has_room, is_enemy, trains};
 use crate::help::Help;
 use crate::named::Named;
 use crate::ordered::{deleted, resigned, sent, set_on, stopped};
-use sim_base::{Change, Changes, Command, Ids, Items, OutOfMemory, Point, Setup, State, centre_of};
+use sim_base::{
+    Change, Changes, Command, Global, Ids, Items, OutOfMemory, Point, Setup, State, centre_of,
+};
 use sim_plans::{find_row, is_inside};
-use std::alloc::Global;
 
 /// What a planner is asked: the changes of a player's command in a state of a match, with the help of the systems for it.
 #[derive(Clone, Copy)]

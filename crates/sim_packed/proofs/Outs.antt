@@ -1,7 +1,6 @@
 -- Which words ask to write a file, by how many they are.
-use Rattle.std.proofs.Common.{◌≡◌, ℕ, ◌<◌, ◌≤◌, ◌⊎◌, List, [], ◌∷◌, length, get_or, string_bytes, None, Option, String, refl, arith}
-use Rattle.std.{proofs.lemmas.Grind.common_steps, specs.declared.alloc.Global.Global}
-use Rattle.sim_top.specs.Words.{asked_by, asked_of_one, asked_of_three, out_of, words_of}
+use Rattle.{sim_top.specs.Words.{asked_by, asked_of_one, asked_of_three, out_of, words_of}, std.proofs.Common.{arith, get_or, length, List, None, Option, refl}}
+use Rattle.std.{proofs.{Common.{String, string_bytes, ℕ, [], ◌<◌, ◌∷◌, ◌≡◌, ◌≤◌, ◌⊎◌}, lemmas.Grind.common_steps}, specs.declared.alloc.Global.Global}
 
 -- a command of one file writes none
 of_one : (command file : List ℕ) → None ≡ out_of (asked_of_one command file)

@@ -5,9 +5,8 @@ ghost use Rattle.std.specs.Prelude.{◌≡◌, ◌<◌, length, is_some, IfSome,
 ghost use Rattle.sim_packed.specs.Files.{file_at, files_in, piece_at, HoldsSpelled, unpacked_of};
 
 use crate::words::text_of;
-use sim_base::OutOfMemory;
+use sim_base::{Global, OutOfMemory};
 use sim_store::{MAX_FILE, MemShelf};
-use std::alloc::Global;
 
 /// The first file of bytes, and the bytes behind it.
 #[derive(Clone, Copy)]

@@ -1,8 +1,7 @@
 //! Theorems about the definitions, each the contract of a function that does nothing.
 
+ghost use Rattle.{sim_packed.specs.Files.{files_bytes, files_in, IsShortFile, IsWord, words_bytes, words_in}, sim_store.specs.Held.File};
 ghost use Rattle.std.specs.Prelude.{All, List, reverse, Some, ℕ, ◌≡◌};
-ghost use Rattle.sim_packed.specs.Files.{files_bytes, files_in, IsShortFile, IsWord, words_bytes, words_in};
-ghost use Rattle.sim_store.specs.Held.{File};
 
 /// Words and files are read from their bytes as what they are; of the files the last stands first.
 pub fn what_is_packed_is_read_back()

@@ -1,15 +1,14 @@
 //! A run over bytes.
 
+ghost use Rattle.{sim_edge.specs.Run.Ran, sim_packed.specs.{declared.running.Unrun.TheVariants.OutOfMemory as no_memory, Files.{IsRun, IsRunOn, IsUnrun}}};
+ghost use Rattle.{sim_packed.specs.Files.under, sim_store.specs.{MemShelf.{counts_on, files_on}, Shelf.no_counts}, sim_top.specs.{Reads.scene, Words.words_of}};
 ghost use Rattle.std.specs.Prelude.{IfErr, IfOk, option_map, ◌≡◌};
-ghost use Rattle.{sim_edge.specs.Run.Ran, sim_packed.specs.Files.IsRun, sim_packed.specs.Files.under, sim_top.specs.Words.words_of};
-ghost use Rattle.{sim_packed.specs.Files.IsRunOn, sim_packed.specs.Files.IsUnrun, sim_store.specs.MemShelf.files_on, sim_store.specs.Shelf.no_counts};
-ghost use Rattle.{sim_packed.specs.declared.running.Unrun.TheVariants.OutOfMemory as no_memory, sim_store.specs.MemShelf.counts_on, sim_top.specs.Reads.scene};
 
 use crate::files::shelf_from;
 use crate::storing::out_of;
 use crate::text::Text;
 use crate::words::words_from;
-use sim_base::OutOfMemory;
+use sim_base::{Global, OutOfMemory};
 use sim_census::Census;
 use sim_edge::{add_rig, run_with};
 use sim_ground::Ground;
@@ -18,7 +17,6 @@ use sim_store::{MemShelf, Shelf, Sink};
 use sim_system::{Rig, System};
 use sim_top::Status;
 use sim_watch::Watch;
-use std::alloc::Global;
 
 /// How a run ended, what it printed, and what is then held under the name of OUT.
 #[derive(Drop)]

@@ -3,8 +3,7 @@
 ghost use Rattle.std.specs.Prelude.{[], IfOk, map, option_map, string_bytes, ◌≡◌};
 ghost use Rattle.sim_packed.specs.Files.{spelled_words, text_in, words_in};
 
-use sim_base::OutOfMemory;
-use std::alloc::Global;
+use sim_base::{Global, OutOfMemory};
 
 /// The words of a command line. Where one of them is no text, or the last has no end, there are none, which no command has either.
 pub fn words_from(alloc: Global, bytes: &[u8]) -> Result<Vec<String>, OutOfMemory>

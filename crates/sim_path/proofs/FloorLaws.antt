@@ -1,8 +1,7 @@
 -- No walk costs less than the octile distance, nor than what a search knows that has come to a key.
-use Rattle.sim_path.proofs.Common.{Cell, cost_in, Costs, estimate-falls, estimate_to, Field, Front, go, HasCost, inl, inr, IsEstimate, IsFloor, IsFront, Walk}
-use Rattle.sim_path.proofs.Common.{IsSearch, IsStep, known_or, octile, octile-self, Ready, Search, stay, subst, sym, taken_in}
-use Rattle.sim_path.specs.OctileLaws.{octile-rises}
-use Rattle.sim_path.proofs.Common.{◌≡◌, ℕ, ◌+◌, ◌-◌, ◌<◌, ◌≤◌, min, max, Bool, true, false, ◌⊎◌, Some, None, Option, refl, Aim, arith, cases_Bool}
+use Rattle.sim_path.proofs.Common.{Aim, arith, Bool, cases_Bool, Cell, cost_in, Costs, estimate-falls, estimate_to, false, Field, Front, go, HasCost, inl, inr}
+use Rattle.sim_path.proofs.Common.{IsEstimate, IsFloor, IsFront, IsSearch, IsStep, known_or, max, min, None, octile, octile-self, Option, Ready, refl, Search}
+use Rattle.sim_path.{proofs.Common.{Some, stay, subst, sym, taken_in, true, Walk, ℕ, ◌+◌, ◌-◌, ◌<◌, ◌≡◌, ◌≤◌, ◌⊎◌}, specs.OctileLaws.octile-rises}
 
 -- no walk costs less than the octile distance
 pub octile-far : (field : Field) (start : Cell) {c : Cell} {n : ℕ} → Walk (IsStep field start) start c n → octile c start ≤ n

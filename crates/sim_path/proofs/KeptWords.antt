@@ -1,8 +1,7 @@
 -- The words of a ground tell its cells.
-use Rattle.sim_grid.specs.{Grids.IsGrid, Grids.OpenCells, Packed.ArePacked, Packed.is_set_at}
-use Rattle.sim_path.proofs.Common.{◌≡◌, ℕ, ◌*◌, Bool, false, List, length, ap₂, arith, Size, sym, ◌∙◌}
-use Rattle.sim_path.specs.Atlases.{cells_of}
-use Rattle.std.proofs.lemmas.List.{get_or_default, same_lists, FromFn.get_or-map-range_with_len, FromFn.length-map-range_with_len}
+use Rattle.sim_grid.specs.{Grids.{IsGrid, OpenCells}, Packed.{ArePacked, is_set_at}}
+use Rattle.sim_path.{proofs.Common.{ap₂, arith, Bool, false, length, List, Size, sym, ℕ, ◌*◌, ◌∙◌, ◌≡◌}, specs.Atlases.cells_of}
+use Rattle.std.proofs.lemmas.List.{FromFn.{get_or-map-range_with_len, length-map-range_with_len}, get_or_default, same_lists}
 
 kept-cells : (cells : List Bool) (words : List ℕ) (n : ℕ) → ArePacked cells words → length cells ≡ n → cells_of n words ≡ cells
 kept-cells cells words n p e =

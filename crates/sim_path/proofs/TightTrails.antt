@@ -1,15 +1,14 @@
 -- Why the cells that are found backwards by tight steps are the trail of the definition.
-use Rattle.sim_path.proofs.Common.{Contains, Contains-append_left, Contains-push, Contains-push_cases, end_key, eq-eqb, false, Field, floor_cost, free-of_walk}
-use Rattle.sim_path.proofs.Common.{IsNoneOf, IsOnGround, IsPredecessor, IsReached, IsSearched, IsStep, IsStrictWeakOrder, IsTight, IsTightStep, IsTightTrail}
-use Rattle.sim_path.proofs.Common.{IsTrail, IsWayEnd, key_to, LeadBack, LeadsTo, least_step, length, length-append, lesser_of, List, ltb, ltb-true, move-of}
-use Rattle.sim_path.proofs.Common.{[], ap, append-nil, append_assoc, AreCosts, AreDead, AreEnds, arith, back_step, Bool, cases_Bool, cases_lt, Cell, cond}
-use Rattle.sim_path.proofs.Common.{go, HasGoneTo, HasStopped, inl, inr, is_before, is_free, IsBest, IsBestOf, IsCost, IsEnd, IsEstimate, IsFirstTight, IsFloor}
-use Rattle.sim_path.proofs.Common.{nat_list_cmp_total, ne_eqb, neighbour, neighbour-back, neighbour-below_eight, neighbour-on, None, not, octile, octile-none}
-use Rattle.sim_path.proofs.Common.{octile-self, Option, ranks_by, Reached, refl, same_from_push, same_or_not, Some, stay, step_back, step_cost, subst, sym}
-use Rattle.sim_path.proofs.Common.{true, true≢false, Walk, walk-on, ℕ, ⊎_elim, ◌*◌, ◌++◌, ◌+◌, ◌-◌, ◌<◌, ◌∙◌, ◌∷◌, ◌≡◌, ◌≢◌, ◌≤◌, ◌⊎◌}
-use Rattle.sim_path.specs.{Questions.AreLive, Questions.IsSlope, Questions.slope_of, SlopeLaws.slope-floor, declared.slope.Slope.Slope}
-use Rattle.sim_search.specs.Rows.{number_in}
-use Rattle.{sim_laws.proofs.Keys.first_of_not_before, sim_path.proofs.Ends.back-of_all, sim_path.proofs.Ends.last_step, sim_search.proofs.Moves.direction-of}
+use Rattle.{sim_laws.proofs.Keys.first_of_not_before, sim_path.proofs.Common.{ap, append-nil, append_assoc, AreCosts, AreDead, AreEnds, arith, back_step, Bool}}
+use Rattle.sim_path.proofs.Common.{cases_Bool, cases_lt, Cell, cond, Contains, Contains-append_left, Contains-push, Contains-push_cases, end_key, eq-eqb, false}
+use Rattle.sim_path.proofs.Common.{Field, floor_cost, free-of_walk, go, HasGoneTo, HasStopped, inl, inr, is_before, is_free, IsBest, IsBestOf, IsCost, IsEnd}
+use Rattle.sim_path.proofs.Common.{IsEstimate, IsFirstTight, IsFloor, IsNoneOf, IsOnGround, IsPredecessor, IsReached, IsSearched, IsStep, IsStrictWeakOrder}
+use Rattle.sim_path.proofs.Common.{IsTight, IsTightStep, IsTightTrail, IsTrail, IsWayEnd, key_to, LeadBack, LeadsTo, least_step, length, length-append}
+use Rattle.sim_path.proofs.Common.{lesser_of, List, ltb, ltb-true, move-of, nat_list_cmp_total, ne_eqb, neighbour, neighbour-back, neighbour-below_eight}
+use Rattle.sim_path.proofs.Common.{neighbour-on, None, not, octile, octile-none, octile-self, Option, ranks_by, Reached, refl, same_from_push, same_or_not}
+use Rattle.sim_path.proofs.Common.{Some, stay, step_back, step_cost, subst, sym, true, true≢false, Walk, walk-on, ℕ, ⊎_elim, [], ◌*◌, ◌++◌, ◌+◌, ◌-◌, ◌<◌, ◌∙◌}
+use Rattle.sim_path.{proofs.{Common.{◌∷◌, ◌≡◌, ◌≢◌, ◌≤◌, ◌⊎◌}, Ends.{back-of_all, last_step}}, specs.declared.slope.Slope.Slope}
+use Rattle.{sim_path.specs.{Questions.{AreLive, IsSlope, slope_of}, SlopeLaws.slope-floor}, sim_search.{proofs.Moves.direction-of, specs.Rows.number_in}}
 
 -- The best of a list of cells, and why it is the end of the way where the cells are the ends of the search.
 

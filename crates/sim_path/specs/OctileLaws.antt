@@ -1,8 +1,7 @@
 -- No walk costs less than the octile distance, since along a step it rises by at most what the step costs.
-use Rattle.sim_base.specs.{Places.Field, Places.IsStep, Places.octile, declared.place.Cell.Cell}
-use Rattle.sim_path.specs.{Questions.IsFloor, Questions.octile_from, declared.straight.Straight.Straight}
-use Rattle.sim_search.proofs.Moves.{beside_of, octile-near, octile-self, turned}
-use Rattle.std.{proofs.Common.arith, proofs.Common.ℕ, proofs.Common.◌+◌, proofs.Common.◌≤◌, specs.Prelude.⊤}
+use Rattle.{sim_base.specs.{declared.place.Cell.Cell, Places.{Field, IsStep, octile}}, sim_path.specs.declared.straight.Straight.Straight}
+use Rattle.{sim_path.specs.Questions.{IsFloor, octile_from}, sim_search.proofs.Moves.{beside_of, octile-near, octile-self, turned}}
+use Rattle.std.{proofs.Common.{arith, ℕ, ◌+◌, ◌≤◌}, specs.Prelude.⊤}
 
 pub octile-rises : (field : Field) (start a b : Cell) (k : ℕ) → IsStep field start a b k → octile b start ≤ octile a start + k
 octile-rises field start a b k s = omega (arith, octile-near start (turned (beside_of field start a b k s)))

@@ -1,13 +1,12 @@
 -- What is asked, and what answers it.
-use Rattle.sim_base.specs.{Limits.waypoint_limit, Places.Field, Places.IsOnGround, Places.IsStep, Places.Size, Places.cell_of, Places.is_free, Places.is_inside}
-use Rattle.sim_base.specs.{Places.octile, Places.same_cell, Places.step_cost, Ways.IsCost, Ways.IsTrail, declared.place.Cell.Cell, declared.place.Point.Point}
+use Rattle.sim_base.specs.{declared.place.{Cell.Cell, Point.Point}, Limits.waypoint_limit}
+use Rattle.sim_base.specs.{Places.{cell_of, Field, is_free, is_inside, IsOnGround, IsStep, octile, same_cell, Size, step_cost}, Ways.{IsCost, IsTrail}}
 use Rattle.sim_grid.specs.Grids.{field_of_grid, is_open_at, IsSpot, OpenCells}
 use Rattle.sim_path.specs.declared.{front.Front.Front, marks.Marks.Marks, question.Question.Question, reached.Reached.Reached, remembered.KeptWay.KeptWay}
-use Rattle.sim_path.specs.{WayEnds.AreEnds, WayEnds.IsTrailToEnd, declared.slope.Slope.Slope, declared.stand.Stand.Stand, declared.step_back.StepBack.StepBack}
-use Rattle.sim_search.specs.{Estimates.estimate_to, Moves.AreMoves, Moves.step_to, Queues.HasCost, Queues.cost_in, Queues.entry_at, Rows.AreDistances}
-use Rattle.sim_search.specs.{Rows.number_in, Rows.size_about, declared.distances.Distances.Distances}
-use Rattle.std.specs.Prelude.{Bool, Contains, drop, false, IsTrue, length, List, map, max, min, nat_eq, nat_le, None, not, Option, reverse, Some, take, true, ℕ}
-use Rattle.std.specs.{Int.abs_diff, Prelude.◌*◌, Prelude.◌+◌, Prelude.◌-◌, Prelude.◌<◌, Prelude.◌≡◌, Prelude.◌≢◌, Prelude.◌≤◌, Prelude.◌⊎◌}
+use Rattle.sim_path.specs.{declared.{slope.Slope.Slope, stand.Stand.Stand, step_back.StepBack.StepBack}, WayEnds.{AreEnds, IsTrailToEnd}}
+use Rattle.sim_search.specs.{declared.distances.Distances.Distances, Estimates.estimate_to, Moves.{AreMoves, step_to}, Queues.{cost_in, entry_at, HasCost}}
+use Rattle.{sim_search.specs.Rows.{AreDistances, number_in, size_about}, std.specs.{Int.abs_diff, Prelude.{Bool, Contains, drop, false, IsTrue, length, List}}}
+use Rattle.std.specs.Prelude.{map, max, min, nat_eq, nat_le, None, not, Option, reverse, Some, take, true, ℕ, ◌*◌, ◌+◌, ◌-◌, ◌<◌, ◌≡◌, ◌≢◌, ◌≤◌, ◌⊎◌}
 
 -- Marks by cells.
 

@@ -1,9 +1,8 @@
 //! The way from a point to another, by its points.
 
-ghost use Rattle.std.specs.Prelude.{[], All, IfOk, reverse, true, ◌∷◌, ◌≡◌};
-ghost use Rattle.sim_base.specs.{Places.IsPlaced, Ways.IsWay, Ways.way_of, Ways.waypoints};
-ghost use Rattle.sim_path.specs.{Answers.way_in, Questions.IsAsked, Questions.IsBetween, Questions.IsKnown, Questions.field_in};
-ghost use Rattle.{sim_grid.specs.Grids.field_of_grid, sim_search.specs.Estimates.IsNarrow, sim_search.specs.Floods.AreLabels, sim_search.specs.Floods.label_in};
+ghost use Rattle.{sim_base.specs.{Places.IsPlaced, Ways.{IsWay, way_of, waypoints}}, sim_grid.specs.Grids.field_of_grid, sim_path.specs.Answers.way_in};
+ghost use Rattle.{sim_path.specs.Questions.{field_in, IsAsked, IsBetween, IsKnown}, sim_search.specs.{Estimates.IsNarrow, Floods.{AreLabels, label_in}}};
+ghost use Rattle.std.specs.Prelude.{All, IfOk, reverse, true, [], ◌∷◌, ◌≡◌};
 
 use crate::atlas::Atlas;
 use crate::end::{best_of, end_of};
@@ -21,14 +20,13 @@ use crate::tight::tight_to;
 use crate::trail::trail_from;
 use crate::trip::{Trip, trip_of};
 use crate::unmarked::blank_marks;
-use sim_base::{Cell, Items, OutOfMemory, Point, Points, cell_of, centre_of};
+use sim_base::{Cell, Global, Items, OutOfMemory, Point, Points, cell_of, centre_of};
 use sim_grid::{Grid, octile};
 use sim_search::{
     Ahead, Aim, Distances, Guide, Labels, Search, Stage, Toward, go_on, least_costs, search_of,
     started,
 };
 use sim_system::Way;
-use std::alloc::Global;
 
 // The way that has the goal alone.
 fn way_within(alloc: Global, goal: &Point) -> Result<Way, OutOfMemory>
@@ -138,11 +136,10 @@ pub struct Searcher {
 }
 
 impl Searcher {
+    ghost use Rattle.{sim_base.specs.{declared.place.Cell.Cell, Places.octile, Ways.{IsWay, way_of}}, sim_grid.specs.Grids.field_of_grid};
+    ghost use Rattle.sim_path.specs.{Answers.way_in, Atlases.ground_in, Questions.{field_in, HasItsEnds, IsAsked, IsBetween, IsItsTrail, IsKnown, IsToTheGoal}};
+    ghost use Rattle.{sim_path.specs.Questions.MayGoBack, sim_search.specs.{Floods.{AreLabels, label_in}, Queues.Ready}};
     ghost use Rattle.std.specs.Prelude.{IfOk, IfSome, OnOk, true, ◌<◌, ◌^◌, ◌≡◌};
-    ghost use Rattle.sim_base.specs.{Places.octile, Ways.IsWay, Ways.way_of, declared.place.Cell.Cell};
-    ghost use Rattle.sim_path.specs.Questions.{IsKnown, IsToTheGoal, MayGoBack, field_in};
-    ghost use Rattle.sim_path.specs.{Answers.way_in, Atlases.ground_in, Questions.HasItsEnds, Questions.IsAsked, Questions.IsBetween, Questions.IsItsTrail};
-    ghost use Rattle.{sim_grid.specs.Grids.field_of_grid, sim_search.specs.Floods.AreLabels, sim_search.specs.Floods.label_in, sim_search.specs.Queues.Ready};
 
     /// A searcher that has no rooms yet.
     pub fn new() -> Searcher {

@@ -1,17 +1,15 @@
 //! What is kept of a ground from one search to the next: landmarks, where ways are winding, and how far the cells are from goals that
 //! are asked for often. They stand beside the open cells of the ground on which they were found, and tell nothing of another.
 
+ghost use Rattle.{sim_grid.specs.Grids.field_of_grid, sim_path.specs.Atlases.{AreOn, ground_in}, sim_search.specs.Rows.{AreLandmarks, row_in}};
 ghost use Rattle.std.specs.{Option.ForSome, Prelude.All};
-ghost use Rattle.{sim_grid.specs.Grids.field_of_grid, sim_search.specs.Rows.AreLandmarks, sim_search.specs.Rows.row_in};
-ghost use Rattle.sim_path.specs.Atlases.{AreOn, ground_in};
 
 use crate::dear::Dear;
 use crate::kept::KeptCells;
 use crate::question::Question;
-use sim_base::{Cell, OutOfMemory};
+use sim_base::{Cell, Global, OutOfMemory};
 use sim_grid::Grid;
 use sim_search::{Distances, Landmarks, Search, distances_to, landmarks_on};
-use std::alloc::Global;
 
 // To how many goals distances are kept at most.
 const GOALS: usize = 32;

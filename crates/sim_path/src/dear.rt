@@ -1,7 +1,6 @@
 //! Goals to which searches were dear. It tells when the distances of all cells to a goal are worth while, and nothing else.
 
-use sim_base::{Cell, OutOfMemory};
-use std::alloc::Global;
+use sim_base::{Cell, Global, OutOfMemory};
 
 // How many goals are counted at once.
 const GOALS: usize = 1024;

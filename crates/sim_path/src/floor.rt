@@ -1,8 +1,7 @@
 //! What walks from a start cost at least. It stands apart from what tells it, since the ways back that are found by it read no more.
 
+ghost use Rattle.{sim_base.specs.{declared.place.Cell.Cell, Places.Field}, sim_path.specs.Questions.{field_in, IsFirstTight, IsFloor, marked_in, MayDescend}};
 ghost use Rattle.std.specs.Prelude.{IsTrue, ℕ, ◌↔◌, ◌≡◌};
-ghost use Rattle.sim_base.specs.{Places.Field, declared.place.Cell.Cell};
-ghost use Rattle.sim_path.specs.Questions.{field_in, IsFirstTight, IsFloor, marked_in, MayDescend};
 
 use crate::marks::Marks;
 use crate::question::Question;

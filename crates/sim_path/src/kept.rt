@@ -2,9 +2,8 @@
 
 ghost use Rattle.std.specs.Prelude.{◌≡◌, IfOk};
 
-use sim_base::OutOfMemory;
+use sim_base::{Global, OutOfMemory};
 use sim_grid::Grid;
-use std::alloc::Global;
 
 /// Which cells of a ground were open, by z, then x, 64 to a word.
 #[derive(Drop)]

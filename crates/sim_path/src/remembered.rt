@@ -7,9 +7,8 @@ ghost use Rattle.sim_path.specs.{Atlases.ground_in, Questions.IsRight};
 use crate::kept::KeptCells;
 use crate::question::Question;
 use crate::trip::Trip;
-use sim_base::{Cell, MAX_WAYPOINTS, OutOfMemory};
+use sim_base::{Cell, Global, MAX_WAYPOINTS, OutOfMemory};
 use sim_grid::Grid;
-use std::alloc::Global;
 
 // How many ways have a place at most.
 const PLACES: usize = 2_048;

@@ -1,10 +1,9 @@
 //! What walks from a start cost at least, by the distances to a goal that a way from there has. As these are exact, it is just what a
 //! walk costs to each cell of a shortest way.
 
+ghost use Rattle.{sim_base.specs.{declared.place.Cell.Cell, Places.{IsOnGround, octile as octile_of}}, sim_grid.specs.Grids.IsSpot};
+ghost use Rattle.{sim_path.specs.Questions.{field_in, IsTight, IsTightStep, LooksAbout, marked_in, slope_of}, sim_search.specs.Rows.{number_in, size_about}};
 ghost use Rattle.std.specs.Prelude.{false, IsTrue, None, Some, true, ◌*◌, ◌+◌, ◌<◌, ◌↔◌, ◌≡◌, ◌≢◌, ◌≤◌};
-ghost use Rattle.sim_path.specs.Questions.{IsTight, LooksAbout, field_in, marked_in, slope_of};
-ghost use Rattle.{sim_base.specs.Places.IsOnGround, sim_grid.specs.Grids.IsSpot, sim_search.specs.Rows.number_in, sim_search.specs.Rows.size_about};
-ghost use Rattle.{sim_base.specs.Places.octile as octile_of, sim_base.specs.declared.place.Cell.Cell, sim_path.specs.Questions.IsTightStep};
 
 use crate::floor::{Descent, Floor};
 use crate::marks::Marks;

@@ -2,10 +2,9 @@
 //! tried in the order of the directions, and those to which none leads are noted. So the way to an end is found before
 //! all cells are taken that cost as much.
 
+ghost use Rattle.{sim_base.specs.{declared.place.Cell.Cell, Places.IsOnGround}, sim_path.specs.Questions.{field_behind, field_in, floor_cost, IsFirstTight}};
+ghost use Rattle.sim_path.specs.{Questions.{IsItsTrail, IsNoneMarked, IsTightStep, IsTightTrail, marked_in, MayGoBack}, WayEnds.IsBestOf};
 ghost use Rattle.std.specs.Prelude.{IfOk, None, Some, true, ◌≡◌};
-ghost use Rattle.sim_base.specs.{Places.IsOnGround, declared.place.Cell.Cell};
-ghost use Rattle.sim_path.specs.Questions.{field_behind, field_in, floor_cost, IsFirstTight, IsItsTrail, IsNoneMarked, IsTightStep, IsTightTrail, marked_in};
-ghost use Rattle.sim_path.specs.{Questions.MayGoBack, WayEnds.IsBestOf};
 
 use crate::end::better_than;
 use crate::floor::{Descent, Floor};

@@ -1,13 +1,10 @@
 -- An exchange goes on having the server and the pipes of a session, through each of its calls.
-use Rattle.sim_base.specs.{Turn.Past, declared.setup.Setup.Setup}
-use Rattle.sim_pipes.proofs.Common.{[], ap, AreFrames, arith, Arrival, cases_eq, cond-false, cond-true, Conveys, Cut, eq-eqb, Err, get_or, Heard, Held, inl}
-use Rattle.sim_pipes.proofs.Common.{inr, IsDownFrame, IsUpFrame, length, List, map, ne_eqb, Ok, OnOk, pipe_in, posts, refl, Result, Rules, Sends, subst, suc}
-use Rattle.sim_pipes.proofs.Common.{sym, UpOf, View, zero, ℕ, ◌++◌, ◌<◌, ◌∙◌, ◌∷◌, ◌≡◌, ◌≤◌, ◌⊎◌}
-use Rattle.sim_plain.specs.{Messages.carry_arrival, Messages.carry_down, Messages.carry_up, Server.heard, Server.put}
-use Rattle.sim_plain_session.proofs.Arrived.{bytes_go_down, server_hears_bytes}
-use Rattle.sim_plain_session.specs.Clients.{Down, Off, Phase, Up}
-use Rattle.sim_plain_session.specs.Sessions.{arrives, cut, downs_of, rises, Session, spelled, ups_of}
-use Rattle.std.proofs.Common.{get_or-set_other, get_or-set_same, set}
+use Rattle.{sim_base.specs.{declared.setup.Setup.Setup, Turn.Past}, sim_pipes.proofs.Common.{ap, AreFrames, arith, Arrival, cases_eq, cond-false, cond-true}}
+use Rattle.sim_pipes.proofs.Common.{Conveys, Cut, eq-eqb, Err, get_or, Heard, Held, inl, inr, IsDownFrame, IsUpFrame, length, List, map, ne_eqb, Ok, OnOk}
+use Rattle.sim_pipes.proofs.Common.{pipe_in, posts, refl, Result, Rules, Sends, subst, suc, sym, UpOf, View, zero, ℕ, [], ◌++◌, ◌<◌, ◌∙◌, ◌∷◌, ◌≡◌, ◌≤◌, ◌⊎◌}
+use Rattle.sim_plain.specs.{Messages.{carry_arrival, carry_down, carry_up}, Server.{heard, put}}
+use Rattle.sim_plain_session.{proofs.Arrived.{bytes_go_down, server_hears_bytes}, specs.{Clients.{Down, Off, Phase, Up}, Sessions.arrives}}
+use Rattle.{sim_plain_session.specs.Sessions.{cut, downs_of, rises, Session, spelled, ups_of}, std.proofs.Common.{get_or-set_other, get_or-set_same, set}}
 
 abbrev Frames : Type 0
 Frames = List (List ℕ)

@@ -1,21 +1,17 @@
 -- What each client gets of a list of posts.
 use Rattle.sim_base.specs.declared.step.Event.TheVariants as event
 use Rattle.sim_plain.specs.declared.message.UpOf.TheVariants as up
-use Rattle.sim_base.specs.declared.command.Command.TheVariants.{Attack, Delete, Place, Resign, Stop, Train, Walk}
-use Rattle.sim_base.specs.{Limits.HasFewIds, declared.command.Command.Command, declared.memory.OutOfMemory.OutOfMemory}
-use Rattle.sim_pipes.proofs.Common.{UpOf, View, told_to, true, zero, ℕ, ◌++◌, ◌+◌, ◌<◌, ◌∙◌, ◌∷◌, ◌≡◌, ◌≤◌, ◌⊎◌}
-use Rattle.sim_pipes.proofs.Common.{[], All, ap, append-nil, AreFrames, arith, Arrival, Bool, cases_eq, cond-false, cond-true, Cut, DownOf, eq-eqb, Err, false}
-use Rattle.sim_pipes.proofs.Common.{filter_map, get_or, Heard, if◌then◌else◌, inl, inr, IsDownFrame, IsSmallServer, length, List, ne_eqb, notice_events}
-use Rattle.sim_pipes.proofs.Common.{notice_in, Ok, pipe_in, PostOf, posts, raw, refl, Result, Rules, Sends, server_of, subst, suc, sym, take, take_more}
+use Rattle.sim_base.specs.declared.{command.Command.{Command, TheVariants.{Attack, Delete, Place, Resign, Stop, Train, Walk}}, memory.OutOfMemory.OutOfMemory}
+use Rattle.{sim_base.specs.Limits.HasFewIds, sim_pipes.proofs.Common.{All, ap, append-nil, AreFrames, arith, Arrival, Bool, cases_eq, cond-false, cond-true}}
+use Rattle.sim_pipes.proofs.Common.{Cut, DownOf, eq-eqb, Err, false, filter_map, get_or, Heard, if◌then◌else◌, inl, inr, IsDownFrame, IsSmallServer, length}
+use Rattle.sim_pipes.proofs.Common.{List, ne_eqb, notice_events, notice_in, Ok, pipe_in, PostOf, posts, raw, refl, Result, Rules, Sends, server_of, subst, suc}
+use Rattle.sim_pipes.proofs.Common.{sym, take, take_more, told_to, true, UpOf, View, zero, ℕ, [], ◌++◌, ◌+◌, ◌<◌, ◌∙◌, ◌∷◌, ◌≡◌, ◌≤◌, ◌⊎◌}
+use Rattle.sim_plain.{proofs.Told.{none_told, notices_are_told, told}, specs.{declared.status.Status.{Status, TheVariants.{In, Out, Waiting}}, Messages.sender}}
 use Rattle.sim_plain.specs.Server.{command_fault, done_fault, is_in, is_out, noticed, post_list, posted_to, Posts, posts_of, Report, report_fault, Server}
-use Rattle.sim_plain.specs.declared.status.Status.TheVariants.{Out, Waiting}
-use Rattle.sim_plain.specs.{Messages.sender, Server.takes_state, declared.status.Status.Status, declared.status.Status.TheVariants.In}
-use Rattle.sim_server.{proofs.Smallness.servers_stay_small, specs.Standing.IsSmallArrival, specs.Standing.Makes}
-use Rattle.sim_wire.specs.{Memory.heard_or_cut, Memory.message_in, Reading.CommandFits, Reading.IsSmallDown, Reading.IsSmallUp, Reading.UpFits}
-use Rattle.std.proofs.Common.{is_none, None, Option, Some, true≢false, ◌==◌}
-use Rattle.std.proofs.lemmas.List.{Elements.All-append, Elements.All-cons, Elements.All-nil, Elements.filter_map-append, map-append}
-use Rattle.{sim_plain.proofs.Told.none_told, sim_plain.proofs.Told.notices_are_told, sim_plain.proofs.Told.told, sim_server.proofs.Smallness.posts_are_small}
-use Rattle.{sim_wire.proofs.Fronts.AreBytes, sim_wire.proofs.Hearing.is_frame, std.specs.List.AllByRecursion, std.specs.Prelude.IfOk}
+use Rattle.{sim_plain.specs.Server.takes_state, sim_server.{proofs.Smallness.{posts_are_small, servers_stay_small}, specs.Standing.{IsSmallArrival, Makes}}}
+use Rattle.sim_wire.{proofs.{Fronts.AreBytes, Hearing.is_frame}, specs.Memory.{heard_or_cut, message_in}}
+use Rattle.{sim_wire.specs.Reading.{CommandFits, IsSmallDown, IsSmallUp, UpFits}, std.proofs.Common.{is_none, None, Option, Some, true≢false, ◌==◌}}
+use Rattle.std.{proofs.lemmas.List.{Elements.{All-append, All-cons, All-nil, filter_map-append}, map-append}, specs.{List.AllByRecursion, Prelude.IfOk}}
 
 pub told_to-append : {B : Type 0} (c : ℕ) (xs ys : List (PostOf B)) → told_to c (xs ++ ys) ≡ told_to c xs ++ told_to c ys
 told_to-append c [] ys = refl

@@ -10,10 +10,9 @@ ghost use Rattle.sim_pipes.specs.Pipes.{AreEmpty, AreFrames, Conveys, Falls, pip
 use crate::hearing::{hear, see_cut};
 use crate::pipe::Pipe;
 use crate::sending::send_all_up;
-use sim_base::{Events, Items, OutOfMemory};
+use sim_base::{Events, Global, Items, OutOfMemory};
 use sim_server::Server;
 use sim_wire::{Bytes, Down, Up, WireFault, unframe_down};
-use std::alloc::Global;
 use std::marker::Model;
 
 /// The server of a session, and for each client a pipe to it and one from it. They stand by the number of the client; what

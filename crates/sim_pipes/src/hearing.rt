@@ -7,9 +7,8 @@ ghost use Rattle.sim_pipes.specs.Common.{Cut, Heard, IsClient, IsSilent, IsSmall
 use crate::notice::push_notices;
 use crate::pipe::Pipe;
 use crate::sending::deliver;
-use sim_base::{Events, Items, OutOfMemory};
+use sim_base::{Events, Global, Items, OutOfMemory};
 use sim_server::Server;
-use std::alloc::Global;
 
 /// Hears the frame of a client, sends what the server says to all clients, and answers what is printed of it.
 pub fn hear(

@@ -7,9 +7,8 @@
 ghost use Rattle.std.specs.Prelude.{◌≡◌, ◌≤◌, [], ◌∷◌, ◌++◌, length, drop, OnOk, OnErr};
 ghost use Rattle.sim_pipes.specs.Pipes.{Takes};
 
-use sim_base::{Items, OutOfMemory};
+use sim_base::{Global, Items, OutOfMemory};
 use sim_wire::Bytes;
-use std::alloc::Global;
 use std::marker::Model;
 
 /// A pipe, which contracts see as the list of the frames that wait in it.

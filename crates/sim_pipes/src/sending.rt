@@ -1,15 +1,13 @@
 //! Messages framed into the pipes of all clients. The pipes stand in a list by the number of their client, the first of
 //! which is nobody's.
 
-ghost use Rattle.std.specs.Prelude.{◌≡◌, ℕ, ◌<◌, List, [], ◌∷◌, ◌++◌, length, OnOk, IsOk, All};
-ghost use Rattle.sim_pipes.specs.{Common.DownOf, Common.IsDownFrame, Common.IsSmallDown, Common.IsSmallUp, Common.IsUpFrame, Common.UpOf, Posts.told_to};
-ghost use Rattle.sim_pipes.specs.Pipes.{AreFrames, pipe_in};
+ghost use Rattle.sim_pipes.specs.{Common.{DownOf, IsDownFrame, IsSmallDown, IsSmallUp, IsUpFrame, UpOf}, Pipes.{AreFrames, pipe_in}, Posts.told_to};
+ghost use Rattle.std.specs.Prelude.{All, IsOk, length, List, OnOk, ℕ, [], ◌++◌, ◌<◌, ◌∷◌, ◌≡◌};
 
 use crate::pipe::Pipe;
-use sim_base::{Items, OutOfMemory};
+use sim_base::{Global, Items, OutOfMemory};
 use sim_server::Posts;
 use sim_wire::{Down, Up, frame_down, frame_up};
-use std::alloc::Global;
 
 // Sends one message up a pipe.
 fn send_up(alloc: Global, pipe: &mut Pipe, up: &Up) -> Result<(), OutOfMemory>

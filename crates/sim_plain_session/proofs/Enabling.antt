@@ -3,16 +3,15 @@ use Rattle.sim_base.specs.declared.step.Event.TheVariants as event
 use Rattle.sim_base.specs.declared.step.Step.TheVariants as step
 use Rattle.sim_plain.specs.declared.message.DownOf.TheVariants as down
 use Rattle.sim_plain.specs.declared.message.UpOf.TheVariants as up
-use Rattle.sim_plain.proofs.Calm.{put_same}
-use Rattle.sim_plain_session.proofs.Common.{CanOrder, CanPlay, Carries, client_of, Command, cond-true, differs, digest, Down, Event, events_by}
-use Rattle.sim_plain_session.proofs.Common.{EventsAreOfSteps, EventsAreShown, fall_events, falls, false, filter, Heard, hears, idle, if◌then◌else◌, inl, inr}
-use Rattle.sim_plain_session.proofs.Common.{List, lt-ltb, ltb-true, map, map-append, may_bend, may_order, may_play, may_tell_done, min, nat_lt, None, Off, On}
-use Rattle.sim_plain_session.proofs.Common.{ReportsOther, rise_events, rises, row_of, rules_of, Seat, Session, Setup, shows_bend, Some, start_events}
-use Rattle.sim_plain_session.proofs.Common.{StartsAreShown, state_of, Step, stepped_by, StepsHaveEvents, subst, suc, sym, told, told_alone, told_with_done}
-use Rattle.sim_plain_session.proofs.Common.{[], Acted, acts, after, and_from, and_parts, ap, arith, begun, bend_event, bends, bent_seat, Bool, CanBend, CanLoad}
-use Rattle.sim_plain_session.proofs.Common.{is_accepted, is_active, is_client, is_none, IsAt, IsOfStep, IsShown, Joining, joins, le-leb, leave_events, leaves}
-use Rattle.sim_plain_session.proofs.Common.{opened, Option, ordered, orders, Past, Phase, play_event, played, plays, put, refl, Report, report_fault}
-use Rattle.sim_plain_session.proofs.Common.{true, Turn, turns_in, Up, up_to, zero, ℕ, ℤ, ◌++◌, ◌∙◌, ◌∷◌, ◌≡◌, ◌≤◌, ◌⊎◌}
+use Rattle.{sim_plain.proofs.Calm.put_same, sim_plain_session.proofs.Common.{Acted, acts, after, and_from, and_parts, ap, arith, begun, bend_event, bends}}
+use Rattle.sim_plain_session.proofs.Common.{bent_seat, Bool, CanBend, CanLoad, CanOrder, CanPlay, Carries, client_of, Command, cond-true, differs, digest, Down}
+use Rattle.sim_plain_session.proofs.Common.{Event, events_by, EventsAreOfSteps, EventsAreShown, fall_events, falls, false, filter, Heard, hears, idle}
+use Rattle.sim_plain_session.proofs.Common.{if◌then◌else◌, inl, inr, is_accepted, is_active, is_client, is_none, IsAt, IsOfStep, IsShown, Joining, joins}
+use Rattle.sim_plain_session.proofs.Common.{le-leb, leave_events, leaves, List, lt-ltb, ltb-true, map, map-append, may_bend, may_order, may_play, may_tell_done}
+use Rattle.sim_plain_session.proofs.Common.{min, nat_lt, None, Off, On, opened, Option, ordered, orders, Past, Phase, play_event, played, plays, put, refl}
+use Rattle.sim_plain_session.proofs.Common.{Report, report_fault, ReportsOther, rise_events, rises, row_of, rules_of, Seat, Session, Setup, shows_bend, Some}
+use Rattle.sim_plain_session.proofs.Common.{start_events, StartsAreShown, state_of, Step, stepped_by, StepsHaveEvents, subst, suc, sym, told, told_alone}
+use Rattle.sim_plain_session.proofs.Common.{told_with_done, true, Turn, turns_in, Up, up_to, zero, ℕ, ℤ, [], ◌++◌, ◌∙◌, ◌∷◌, ◌≡◌, ◌≤◌, ◌⊎◌}
 
 -- ---- an event of a step is of that step
 

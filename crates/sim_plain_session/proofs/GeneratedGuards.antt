@@ -1,10 +1,9 @@
 -- Generated sessions, as they come out of an independent program: two clients, delay 2 and 6 turns, where fencers of enemies fight.
 use Rattle.sim_base.specs.declared.step.Event.TheVariants as event
 use Rattle.sim_base.specs.declared.step.Step.TheVariants as step
-use Rattle.sim_plain_session.proofs.Common.{In, List, md5, mid, Out, pos, quick, refl, Resign, rounds, session, session_events, Setup, setup_of, Some, Step}
-use Rattle.sim_plain_session.proofs.Common.{Stop, Template, u16_bytes, u32_bytes, u64_bytes, Waiting, ℕ, ◌∷◌, ◌≡◌}
-use Rattle.sim_plain_session.proofs.Common.{[], Attack, block_words, codes, compress, Delete, digest, digest_bytes, first, guard, harm, hash_after, i32_bytes}
-use Rattle.sim_plain_session.proofs.GeneratedPosts.{left}
+use Rattle.sim_plain_session.proofs.Common.{Attack, block_words, codes, compress, Delete, digest, digest_bytes, first, guard, harm, hash_after, i32_bytes, In}
+use Rattle.sim_plain_session.proofs.Common.{List, md5, mid, Out, pos, quick, refl, Resign, rounds, session, session_events, Setup, setup_of, Some, Step, Stop}
+use Rattle.sim_plain_session.proofs.{Common.{Template, u16_bytes, u32_bytes, u64_bytes, Waiting, ℕ, [], ◌∷◌, ◌≡◌}, GeneratedPosts.left}
 
 -- a guard that hits less, and not each time
 abbrev fencer : Template

@@ -1,8 +1,7 @@
 -- A client with a state goes on standing for one with a past.
-use Rattle.sim_plain.proofs.Calm.{put_other, put_same}
-use Rattle.sim_plain_session.proofs.Common.{List, mark, PlayerCommand, PlayingStands, put, refl, SameMark, SameTurn, State, subst, suc, sym, turn, turns_in, ℕ}
-use Rattle.sim_plain_session.proofs.Common.{[], after_counts_turns, ap, arith, BeginningStands, BendingStands, bent, cases_eq, digest, inl, inr, LearningStands}
-use Rattle.sim_plain_session.proofs.Common.{◌++◌, ◌<◌, ◌∙◌, ◌∷◌, ◌≡◌, ◌⊎◌}
+use Rattle.{sim_plain.proofs.Calm.{put_other, put_same}, sim_plain_session.proofs.Common.{after_counts_turns, ap, arith, BeginningStands, BendingStands, bent}}
+use Rattle.sim_plain_session.proofs.Common.{cases_eq, digest, inl, inr, LearningStands, List, mark, PlayerCommand, PlayingStands, put, refl, SameMark, SameTurn}
+use Rattle.sim_plain_session.proofs.Common.{State, subst, suc, sym, turn, turns_in, ℕ, [], ◌++◌, ◌<◌, ◌∙◌, ◌∷◌, ◌≡◌, ◌⊎◌}
 
 pub same_turn : SameTurn
 same_turn setup player seat s =

@@ -1,7 +1,6 @@
 -- What a report shows of its client, by the turn.
-use Rattle.std.specs.Prelude.{◌≡◌, ℕ, true, false, ℤ}
-use Rattle.sim_plain_session.specs.Clients.{bent_seat, digest_of, mark_of, Seat, state_of}
-use Rattle.sim_plain_session.specs.Common.{is_full_turn, quick, Setup, turns_in}
+use Rattle.sim_plain_session.specs.{Clients.{bent_seat, digest_of, mark_of, Seat, state_of}, Common.{is_full_turn, quick, Setup, turns_in}}
+use Rattle.std.specs.Prelude.{false, true, ℕ, ℤ, ◌≡◌}
 
 -- at a full turn it shows the whole digest
 abbrev pub FullIsDigest : Type 0

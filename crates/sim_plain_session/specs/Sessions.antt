@@ -3,12 +3,11 @@ use Rattle.sim_base.specs.declared.step.Step.TheVariants as step
 use Rattle.sim_base.specs.declared.step.Event.TheVariants as event
 use Rattle.sim_plain.specs.declared.message.DownOf.TheVariants as down
 use Rattle.sim_plain.specs.declared.message.UpOf.TheVariants as up
-use Rattle.sim_plain_session.specs.Clients.{Acted, begun, bends, Down, hears, Joining, joins, Off, On, orders, Phase, plays, Seat, Up}
-use Rattle.sim_plain_session.specs.Common.{Heard, heard, may_bend, noticed, notices, opening, Past, Posts, posts, put, report_fault, row_of, Server}
-use Rattle.sim_plain_session.specs.Common.{after, Arrival, Bend, carry_arrival, carry_down, carry_up, Cut, differs, digest, DownOf, enumerate_from, Event}
-use Rattle.sim_plain_session.specs.Common.{server_after, Setup, spelling, Step, Turn, turns_in, up_to, UpOf}
-use Rattle.std.specs.Prelude.{[], Bool, flat_map, if◌then◌else◌, List, map, min, nat_le, nat_lt, None, suc, take, true, ℕ, ℤ, ◌&&◌, ◌++◌, ◌<◌, ◌∷◌, ◌≡◌, ◌≢◌}
-use Rattle.{sim_plain_session.specs.Pasts.is_client, sim_plain_session.specs.Pasts.rules_of, std.specs.Prelude.◌⊎◌}
+use Rattle.sim_plain_session.specs.{Clients.{Acted, begun, bends, Down, hears, Joining, joins, Off, On, orders, Phase, plays, Seat, Up}, Common.after}
+use Rattle.sim_plain_session.specs.Common.{Arrival, Bend, carry_arrival, carry_down, carry_up, Cut, differs, digest, DownOf, enumerate_from, Event, Heard}
+use Rattle.sim_plain_session.specs.Common.{heard, may_bend, noticed, notices, opening, Past, Posts, posts, put, report_fault, row_of, Server, server_after}
+use Rattle.{sim_plain_session.specs.{Common.{Setup, spelling, Step, Turn, turns_in, up_to, UpOf}, Pasts.{is_client, rules_of}}, std.specs.Prelude.Bool}
+use Rattle.std.specs.Prelude.{flat_map, if◌then◌else◌, List, map, min, nat_le, nat_lt, None, suc, take, true, ℕ, ℤ, [], ◌&&◌, ◌++◌, ◌<◌, ◌∷◌, ◌≡◌, ◌≢◌, ◌⊎◌}
 
 -- the server and all that has arrived at it, the newest first; and by client what it is, and the two pipes, the first to be heard first
 pub record Session : Type 0 where

@@ -1,13 +1,12 @@
 -- The plan of the phase in which fighters aim: its changes, all found from the one state before, fit and give the phase.
-use Rattle.sim_base.specs.{Commands.released, Commands.seen, Commands.within, Rows.enemies_of, Rows.in_mask, Rows.is_going, Rows.is_holding, Turn.is_idle}
-use Rattle.sim_base.specs.{Turn.lets_go, Turn.looking, Turn.may_take, Turn.square_to, Turn.target_for, Turn.with_releases, Ways.least_of}
-use Rattle.sim_plans.proofs.Common.{[], Aim, aim_plan, aimed, aimed_at, All, All-nil, all_at, and_parts, ap, arith, Arms, arms_of, Bool, cond, false, filter}
-use Rattle.sim_plans.proofs.Common.{find, found_row, halted, id_of, inl, is_near, is_some, IsKnownRow, IsLooselyValid, IsPlanOf, IsTarget, IsValidRow}
-use Rattle.sim_plans.proofs.Common.{known_row, List, map, Motion, nat_le, None, not, Option, Plans, refl, Row, row_of, set_by_all, Setup, Some, square, State}
-use Rattle.sim_plans.proofs.Common.{subst, Suits, sym, target_of, Template, template_of, true, unsigned_abs, ℕ, ◌&&◌, ◌*◌, ◌<◌, ◌==◌, ◌||◌, ◌∙◌, ◌∷◌, ◌≡◌, ◌≤◌}
-use Rattle.sim_plans.proofs.Suiting.{armed, target_changes-set, target_changes_suit, turn_changes-set, turn_changes_suit}
-use Rattle.sim_plans.{proofs.RowByRow.row_by_row_to, specs.Plans.aim_changes_by, specs.Plans.aim_changes_of, specs.Plans.next_target}
-use Rattle.{sim_laws.proofs.Removing.target_for_is_target, sim_laws.proofs.Validity.map-map, std.specs.Prelude.option_map, std.specs.Prelude.unwrap_or}
+use Rattle.sim_base.specs.{Commands.{released, seen, within}, Rows.{enemies_of, in_mask, is_going, is_holding}, Turn.{is_idle, lets_go, looking, may_take}}
+use Rattle.{sim_base.specs.{Turn.{square_to, target_for, with_releases}, Ways.least_of}, sim_laws.proofs.{Removing.target_for_is_target, Validity.map-map}}
+use Rattle.sim_plans.proofs.Common.{Aim, aim_plan, aimed, aimed_at, All, All-nil, all_at, and_parts, ap, arith, Arms, arms_of, Bool, cond, false, filter, find}
+use Rattle.sim_plans.proofs.Common.{found_row, halted, id_of, inl, is_near, is_some, IsKnownRow, IsLooselyValid, IsPlanOf, IsTarget, IsValidRow, known_row}
+use Rattle.sim_plans.proofs.Common.{List, map, Motion, nat_le, None, not, Option, Plans, refl, Row, row_of, set_by_all, Setup, Some, square, State, subst}
+use Rattle.sim_plans.proofs.Common.{Suits, sym, target_of, Template, template_of, true, unsigned_abs, ℕ, [], ◌&&◌, ◌*◌, ◌<◌, ◌==◌, ◌||◌, ◌∙◌, ◌∷◌, ◌≡◌, ◌≤◌}
+use Rattle.sim_plans.proofs.{RowByRow.row_by_row_to, Suiting.{armed, target_changes-set, target_changes_suit, turn_changes-set, turn_changes_suit}}
+use Rattle.{sim_plans.specs.Plans.{aim_changes_by, aim_changes_of, next_target}, std.specs.Prelude.{option_map, unwrap_or}}
 
 filter-map : {X Y : Type 0} (p : Y → Bool) (f : X → Y) (xs : List X) → filter p (map f xs) ≡ map f (filter (λ x. p (f x)) xs)
 filter-map p f [] = refl

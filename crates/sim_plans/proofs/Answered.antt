@@ -1,7 +1,6 @@
 -- What an answer says of the changes that it has.
-use Rattle.std.{proofs.Common.Ok, proofs.Common.Result, specs.Prelude.IfOk, specs.Result.ForOk}
-use Rattle.sim_base.specs.declared.memory.OutOfMemory.{OutOfMemory}
-use Rattle.sim_plans.proofs.Common.{◌≡◌, List, Change, IsPlanOf, Setup, State, subst, sym}
+use Rattle.{sim_base.specs.declared.memory.OutOfMemory.OutOfMemory, sim_plans.proofs.Common.{Change, IsPlanOf, List, Setup, State, subst, sym, ◌≡◌}}
+use Rattle.std.{proofs.Common.{Ok, Result}, specs.{Prelude.IfOk, Result.ForOk}}
 
 -- what is said of an answer where it is one
 pub of_answer : (P : List Change → Type 0) (result : Result (List Change) OutOfMemory) (changes : List Change) → result ≡ Ok changes → IfOk result P → P changes

@@ -1,17 +1,15 @@
 -- What is answered over the facts of a state is what is answered over its rows.
 use Rattle.sim_system.specs.declared.ask.Ask.TheVariants as ask
-use Rattle.sim_base.specs.declared.{place.Cell.Cell, place.Rect.Rect, setup.Land.Land}
-use Rattle.sim_base.specs.{Commands.is_near, Commands.is_open, Commands.rect_covers, Commands.within, Places.cells_of, Places.centre_of, Places.covers}
-use Rattle.sim_base.specs.{Places.is_rect_inside, Places.square, Rows.in_mask, Rows.rect_of_row, Rows.size_of, Ways.least_of, Ways.way_of}
-use Rattle.sim_plans.proofs.FactLists.{[], ap, apart, arith, Arms, arms_of, Bool, Census, cond, cons_option, eqb-true, Fact, fact_of, fact_with-facts, facts}
+use Rattle.sim_base.specs.{Commands.{is_near, is_open, rect_covers, within}, declared.{place.{Cell.Cell, Rect.Rect}, setup.Land.Land}}
+use Rattle.sim_base.specs.{Places.{cells_of, centre_of, covers, is_rect_inside, square}, Rows.{in_mask, rect_of_row, size_of}, Ways.{least_of, way_of}}
+use Rattle.sim_plans.proofs.FactLists.{ap, apart, arith, Arms, arms_of, Bool, Census, cond, cons_option, eqb-true, Fact, fact_of, fact_with-facts, facts}
 use Rattle.sim_plans.proofs.FactLists.{facts_of, false, filter, Ground, id_of, id_of_fact, is_some, IsLooselyValid, IsSome, Kind, List, map, MatchOption, None}
 use Rattle.sim_plans.proofs.FactLists.{not, Option, option_and_then, option_map, part, part-id, part_for, Point, Range, refl, Row, row_of, Setup, Some, State}
-use Rattle.sim_plans.proofs.FactLists.{subst, sym, target_of, true, Watch, ℕ, ℤ, ◌&&◌, ◌==◌, ◌||◌, ◌∙◌, ◌∷◌, ◌≡◌}
-use Rattle.sim_system.specs.Meanings.{answer, answer_over, AskFits, is_open_among, IsAnswer, IsFed, kind_for, MayAnswer, MayAsk, Meaning, seen_among, seen_from}
-use Rattle.sim_system.specs.declared.ask.Answer.{Answer, TheVariants.Found, TheVariants.Many, TheVariants.Number, TheVariants.Place, TheVariants.Truth}
-use Rattle.sim_system.specs.{Meanings.seen_with, Meanings.way_told, Meanings.within_among, Notes.origin, Notes.vision_of, declared.ask.Ask.Ask}
-use Rattle.std.specs.{List.list_all, List.list_any, Prelude.Err, Prelude.IfOk, Prelude.Ok, Prelude.Result, Prelude.count_by, Prelude.slice_index}
-use Rattle.{sim_plans.specs.FactLaws.AnswersAgree, std.proofs.lemmas.Bool.eqb-false, std.proofs.lemmas.List.Sums.sum_by-cons}
+use Rattle.sim_plans.{proofs.FactLists.{subst, sym, target_of, true, Watch, ℕ, ℤ, [], ◌&&◌, ◌==◌, ◌||◌, ◌∙◌, ◌∷◌, ◌≡◌}, specs.FactLaws.AnswersAgree}
+use Rattle.sim_system.specs.{declared.ask.{Answer.{Answer, TheVariants.{Found, Many, Number, Place, Truth}}, Ask.Ask}, Meanings.{answer, answer_over, AskFits}}
+use Rattle.sim_system.specs.Meanings.{is_open_among, IsAnswer, IsFed, kind_for, MayAnswer, MayAsk, Meaning, seen_among, seen_from, seen_with, way_told}
+use Rattle.{sim_system.specs.{Meanings.within_among, Notes.{origin, vision_of}}, std.proofs.lemmas.{Bool.eqb-false, List.Sums.sum_by-cons}}
+use Rattle.std.specs.{List.{list_all, list_any}, Prelude.{count_by, Err, IfOk, Ok, Result, slice_index}}
 
 -- ---- one test of facts and of rows
 

@@ -1,11 +1,10 @@
 -- Points of a valid state lie on the largest ground, and arms of a match are within their limits.
-use Rattle.sim_base.specs.{Limits.IsArms, Places.Field, Places.IsPlaced, Places.Size, Places.is_within}
+use Rattle.sim_base.{proofs.GroundPoints.inside_placed, specs.{Limits.IsArms, Places.{Field, is_within, IsPlaced, Size}}}
+use Rattle.sim_laws.proofs.Commanding.{inside-on_ground, way_of-inside}
 use Rattle.sim_plans.proofs.Common.{All, All-weaker, all_at, and_parts, arith, Arms, arms_of, found_row, ints, is_inside, IsInside, IsKnownRow, IsLooselyValid}
 use Rattle.sim_plans.proofs.Common.{IsSetup, known_row, known_template, List, None, Option, option_and_then, Point, pos, refl, Row, row_of, Setup, size_of}
 use Rattle.sim_plans.proofs.Common.{slice_get, Some, State, subst, Template, template_of, true, way_of, ℕ, ℤ, ◌*◌, ◌<◌, ◌≡◌, ◌≤ℤ◌, ◌≤◌}
-use Rattle.std.specs.Prelude.{IfSome}
-use Rattle.{sim_base.proofs.GroundPoints.inside_placed, sim_laws.proofs.Commanding.inside-on_ground, sim_laws.proofs.Commanding.way_of-inside}
-use Rattle.{sim_plans.specs.Sizes.IsCoordinate, sim_plans.specs.Sizes.IsGround, std.proofs.Common.int_le, std.proofs.Common.int_lt, std.proofs.Common.◌<ℤ◌}
+use Rattle.{sim_plans.specs.Sizes.{IsCoordinate, IsGround}, std.{proofs.Common.{int_le, int_lt, ◌<ℤ◌}, specs.Prelude.IfSome}}
 
 coordinate : (raw : ℤ) (cells : ℕ) → cells ≤ 256 → is_within raw cells ≡ true → IsCoordinate raw
 coordinate raw cells le h =

@@ -1,25 +1,24 @@
 -- The plan of a command: its changes fit and give the command, and each names a row of the commander or makes one for him.
 use Rattle.sim_base.specs.declared.change.Change.TheVariants as change
 use Rattle.sim_base.specs.Commands.{commanded, commanded_by, created, has_room, is_enemy, is_ordered, is_placeable, placed_on, removed, sent, set_on, spot}
-use Rattle.sim_base.specs.declared.command.Command.TheVariants.{Attack, Delete, Place, Resign, Stop, Train, Walk}
-use Rattle.sim_base.specs.declared.{change.Change.TheVariants.Tick, command.Command.Command, command.PlayerCommand.PlayerCommand, place.Cell.Cell}
-use Rattle.sim_base.specs.{Commands.stopped, Commands.trained, Commands.trains, Commands.with_ordered, Places.centre_of, Turn.is_spent, Turn.ticked}
+use Rattle.sim_base.specs.Commands.{stopped, trained, trains, with_ordered}
+use Rattle.sim_base.specs.declared.{change.Change.TheVariants.Tick, command.Command.{Command, TheVariants.{Attack, Delete, Place, Resign, Stop, Train, Walk}}}
+use Rattle.sim_base.specs.{declared.{command.PlayerCommand.PlayerCommand, place.Cell.Cell}, Places.centre_of, Turn.{is_spent, ticked}}
 use Rattle.sim_laws.proofs.Commanding.{enemy_is_target, enemy_row, middle_inside, moved_is_state, placeable, spot_on_ground, trained_template}
-use Rattle.sim_laws.proofs.{Hitting.hit_is_state, Neighbours.Has-map, Removing.removed-ids, Removing.removed_all, Validity.Has-filter, Validity.row_found}
-use Rattle.sim_laws.proofs.{Neighbours.Has-of_map, Removing.aimed_is_state, Turning.command_keeps_loose, Turning.turn_is_counted, Validity.valid_is_loose}
-use Rattle.sim_plans.proofs.Common.{Apart, apart, applied, applied_all, arith, Bool, Change, cond, cond_both, eq-eqb, eqb-true, false, filter, find, flat_map}
-use Rattle.sim_plans.proofs.Common.{Going, gone, gone_plan, Has, Has-of_filter, hit, hit_plan, id_of, inl, inr, is_inside, is_some, IsInside, IsKnownRow}
-use Rattle.sim_plans.proofs.Common.{IsLooselyValid, IsOwnChange, IsPlanOf, IsSetup, IsStrictlyIncreasing, IsTarget, IsValidRow, known_row, length, List}
-use Rattle.sim_plans.proofs.Common.{[], Aim, aim_plan, aimed, All, All-append, All-cons, All-head, All-nil, All-tail, All-weaker, all_at, AllFit, and_parts, ap}
-use Rattle.sim_plans.proofs.Common.{list_any, map, MatchOption, Motion, move_plan, moved, ne_eqb, None, not, OfRow, Option, Point, refl, Row, row_of}
-use Rattle.sim_plans.proofs.Common.{set_by_all, Setup, size_of, slice_get, Some, stance_changes, State, subst, Suits, sym, Template, template_of, true, ℕ}
-use Rattle.sim_plans.proofs.Suiting.{stance_changes-set, stance_changes_suit, stand_changes-set, stand_changes_suit}
-use Rattle.sim_plans.proofs.{AimPlan.aim_plan_is, Common.⊎_elim, Common.◌&&◌, Common.◌==◌, Common.◌∙◌, Common.◌∷◌, Common.◌≡◌, Common.◌≤◌}
-use Rattle.sim_plans.proofs.{MovePlan.move_plan_is, RowByRow.hit_plan_is, RowByRow.plan_then, RowByRow.row_by_row_to, Suiting.motion_suits, Suiting.one_suits}
+use Rattle.sim_laws.proofs.{Hitting.hit_is_state, Neighbours.{Has-map, Has-of_map}, Removing.{aimed_is_state, removed-ids, removed_all}}
+use Rattle.sim_laws.{proofs.{Turning.{command_keeps_loose, turn_is_counted}, Validity.{Has-filter, row_found, valid_is_loose}}, specs.TurnLaws.IsOrderOf}
+use Rattle.sim_plans.proofs.{AimPlan.aim_plan_is, Common.{Aim, aim_plan, aimed, All, All-append, All-cons, All-head, All-nil, All-tail, All-weaker, all_at}}
+use Rattle.sim_plans.proofs.Common.{AllFit, and_parts, ap, Apart, apart, applied, applied_all, arith, Bool, Change, cond, cond_both, eq-eqb, eqb-true, false}
+use Rattle.sim_plans.proofs.Common.{filter, find, flat_map, Going, gone, gone_plan, Has, Has-of_filter, hit, hit_plan, id_of, inl, inr, is_inside, is_some}
+use Rattle.sim_plans.proofs.Common.{IsInside, IsKnownRow, IsLooselyValid, IsOwnChange, IsPlanOf, IsSetup, IsStrictlyIncreasing, IsTarget, IsValidRow, known_row}
+use Rattle.sim_plans.proofs.Common.{length, List, list_any, map, MatchOption, Motion, move_plan, moved, ne_eqb, None, not, OfRow, Option, Point, refl, Row}
+use Rattle.sim_plans.proofs.Common.{row_of, set_by_all, Setup, size_of, slice_get, Some, stance_changes, State, subst, Suits, sym, Template, template_of, true}
+use Rattle.sim_plans.proofs.{Common.{ℕ, ⊎_elim, [], ◌&&◌, ◌==◌, ◌∙◌, ◌∷◌, ◌≡◌, ◌≤◌}, MovePlan.move_plan_is, RowByRow.{hit_plan_is, plan_then, row_by_row_to}}
+use Rattle.sim_plans.proofs.Suiting.{motion_suits, one_suits, stance_changes-set, stance_changes_suit, stand_changes-set, stand_changes_suit}
 use Rattle.sim_plans.specs.Plans.{aim_on, command_plan, command_plan_by, CommandIsOwn, CommandIsPlanned, gone_on, hit_on, move_on, ordered_changes, orders_plan}
 use Rattle.sim_plans.specs.Plans.{place_changes, sent_changes, sent_changes_by, set_on_changes, set_on_changes_by, stop_changes, then_plan, train_changes}
-use Rattle.std.proofs.{Common.fold, Common.◌+◌, lemmas.Bool.cases_Bool, lemmas.Bool.ltb-true, lemmas.List.Folds.fold-map, lemmas.Option.slice_get_within}
-use Rattle.{sim_laws.specs.TurnLaws.IsOrderOf, sim_plans.specs.Plans.TurnIsPlanned, std.specs.Prelude.nat_lt}
+use Rattle.sim_plans.specs.Plans.{TurnIsPlanned}
+use Rattle.std.{proofs.{Common.{fold, ◌+◌}, lemmas.{Bool.{cases_Bool, ltb-true}, List.Folds.fold-map, Option.slice_get_within}}, specs.Prelude.nat_lt}
 
 -- Rows are removed one after another: each is still alive when it is its turn.
 

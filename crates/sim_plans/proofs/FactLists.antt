@@ -1,23 +1,19 @@
 -- The facts of a list of rows: where a row is changed, leaves or comes, and where a fact is found.
-pub use Rattle.sim_base.specs.declared.{place.Point.Point, setup.Setup.Setup, state.Aim.Aim, state.Motion.Motion, state.Row.Row, state.State.State}
-pub use Rattle.sim_base.specs.{Commands.released, Commands.removed, Commands.watchers, Commands.with_row, Limits.IsInside, Limits.IsKnownRow}
-pub use Rattle.sim_base.specs.{Limits.IsLooselyValid, Limits.IsSetup, Limits.IsValidAim, Rows.arms_of, Rows.id_of, Rows.row_of, Rows.target_of}
-pub use Rattle.sim_laws.proofs.{Commanding.known_template, Neighbours.Has, Validity.Apart, Validity.all_at, Validity.apart, Validity.found_row}
-pub use Rattle.sim_plans.specs.{FactLaws.AllNotesFit, Releases.release_all, RowChanges.Fits, RowChanges.OfRow}
+pub use Rattle.sim_base.specs.{Commands.{released, removed, watchers, with_row}, declared.place.Point.Point}
+pub use Rattle.sim_base.specs.declared.{setup.Setup.Setup, state.{Aim.Aim, Motion.Motion, Row.Row, State.State}, template.{Arms.Arms, Template.Template}}
+pub use Rattle.sim_base.specs.{Limits.{IsInside, IsKnownRow, IsLooselyValid, IsSetup, IsValidAim}, Rows.{arms_of, id_of, row_of, target_of}}
+pub use Rattle.sim_laws.proofs.{Commanding.known_template, Neighbours.Has, Validity.{all_at, Apart, apart, found_row, known_row}}
+pub use Rattle.sim_plans.specs.{FactLaws.AllNotesFit, Releases.release_all, RowChanges.{Fits, OfRow}}
+pub use Rattle.sim_system.specs.declared.{fact.Fact.Fact, kind.Kind.{Kind, TheVariants.{Census, Ground, Range, Watch}}}
+pub use Rattle.sim_system.specs.declared.note.Note.{Note, TheVariants.{Aimed, Born, Gone, Moved, Owned}}
 pub use Rattle.sim_system.specs.Notes.{aim_of, fact_of, fact_with, facts_of, id_of_fact, IsInRange, keeps, kept, noted, part_for, with_kept, without}
-pub use Rattle.sim_system.specs.declared.kind.Kind.{Kind, TheVariants.Census, TheVariants.Ground, TheVariants.Range, TheVariants.Watch}
-pub use Rattle.sim_system.specs.declared.note.Note.{Note, TheVariants.Aimed, TheVariants.Born, TheVariants.Gone, TheVariants.Moved, TheVariants.Owned}
-pub use Rattle.std.proofs.Common.{[], ap, arith, Bool, cond, false, filter, find, fold, inl, inr, length, List, map, MatchOption, None, not, Option, refl, Some}
-pub use Rattle.std.proofs.Common.{subst, sym, true, ℕ, ℤ, ⊎_elim, ◌++◌, ◌<◌, ◌∙◌, ◌∷◌, ◌≡◌, ◌≤◌}
-pub use Rattle.std.specs.Prelude.{is_some, IsSome, option_and_then, option_map, unwrap_or, ◌&&◌, ◌==◌, ◌||◌}
-pub use Rattle.std.{proofs.lemmas.Bool.ne_eqb, specs.List.cons_option}
-pub use Rattle.{sim_base.specs.declared.template.Arms.Arms, sim_base.specs.declared.template.Template.Template, sim_laws.proofs.Validity.known_row}
-pub use Rattle.{sim_system.specs.declared.fact.Fact.Fact, std.proofs.lemmas.Bool.cond_both, std.proofs.lemmas.Bool.eq-eqb, std.proofs.lemmas.Bool.eqb-true}
-use Rattle.std.proofs.{Common.append_assoc, Common.◌+◌, lemmas.Bool.cond-true, lemmas.List.map-append}
-use Rattle.{sim_base.specs.Limits.IsValidMotion, sim_base.specs.Rows.template_of, sim_laws.proofs.Neighbours.Has-of_map, sim_system.proofs.Facts.placed_behind}
-use Rattle.{sim_laws.proofs.Neighbours.Has-append_cases, sim_laws.proofs.Neighbours.Has-of_filter_map, sim_plans.specs.FactLaws.UnheardChangesNothing}
-use Rattle.{sim_laws.proofs.Validity.both_same, sim_laws.proofs.Validity.same_row, sim_system.proofs.Facts.kept_id, sim_system.specs.Notes.with_changed}
-use Rattle.{sim_system.specs.Notes.kept_of, sim_system.specs.Notes.placed, std.specs.Prelude.IsNone, std.specs.Prelude.nat_lt}
+pub use Rattle.std.proofs.Common.{ap, arith, Bool, cond, false, filter, find, fold, inl, inr, length, List, map, MatchOption, None, not, Option, refl, Some}
+pub use Rattle.std.proofs.{Common.{subst, sym, true, ℕ, ℤ, ⊎_elim, [], ◌++◌, ◌<◌, ◌∙◌, ◌∷◌, ◌≡◌, ◌≤◌}, lemmas.Bool.{cond_both, eq-eqb, eqb-true, ne_eqb}}
+pub use Rattle.std.specs.{List.cons_option, Prelude.{is_some, IsSome, option_and_then, option_map, unwrap_or, ◌&&◌, ◌==◌, ◌||◌}}
+use Rattle.sim_base.specs.{Limits.IsValidMotion, Rows.template_of}
+use Rattle.sim_laws.proofs.{Neighbours.{Has-append_cases, Has-of_filter_map, Has-of_map}, Validity.{both_same, same_row}}
+use Rattle.{sim_plans.specs.FactLaws.UnheardChangesNothing, sim_system.{proofs.Facts.{kept_id, placed_behind}, specs.Notes.{kept_of, placed, with_changed}}}
+use Rattle.std.{proofs.{Common.{append_assoc, ◌+◌}, lemmas.{Bool.cond-true, List.map-append}}, specs.Prelude.{IsNone, nat_lt}}
 
 -- The words that the proofs here name again and again, passed on from one place. Declares nothing.
 

@@ -1,9 +1,8 @@
 -- A row that goes on to the same goal with as many waypoints as before goes on as it went.
-use Rattle.sim_base.specs.{Places.root, Turn.Walked, Turn.after_walk, Turn.headed, Turn.toward, Turn.walked}
-use Rattle.sim_plans.proofs.Common.{Still, suc, sym, true, way_of, ℕ, ◌-◌, ◌==◌, ◌∙◌, ◌∷◌, ◌≡◌, ◌≤◌}
-use Rattle.sim_plans.proofs.Common.{[], along_found, and_parts, ap, arith, Arms, Bool, chasing, cond, eq-eqb, eqb-true, false, field_of, goes_on, Going, int_eq}
-use Rattle.sim_plans.proofs.Common.{is_near, length, List, Motion, moved_by, nat_le, None, Option, Point, refl, Row, same_point, Setup, Some, square, State}
-use Rattle.std.proofs.lemmas.Bool.{Decides.Decides-int_eq, and_from, both_ways}
+use Rattle.{sim_base.specs.{Places.root, Turn.{after_walk, headed, toward, Walked, walked}}, sim_plans.proofs.Common.along_found}
+use Rattle.sim_plans.proofs.Common.{and_parts, ap, arith, Arms, Bool, chasing, cond, eq-eqb, eqb-true, false, field_of, goes_on, Going, int_eq, is_near, length}
+use Rattle.sim_plans.proofs.Common.{List, Motion, moved_by, nat_le, None, Option, Point, refl, Row, same_point, Setup, Some, square, State, Still, suc, sym}
+use Rattle.{sim_plans.proofs.Common.{true, way_of, ℕ, [], ◌-◌, ◌==◌, ◌∙◌, ◌∷◌, ◌≡◌, ◌≤◌}, std.proofs.lemmas.Bool.{and_from, both_ways, Decides.Decides-int_eq}}
 
 -- no more waypoints are left than there were
 rest_is_short : (p : Point) (budget : ℕ) (way : List Point) → length (walked p budget way).way ≤ length way

@@ -1,11 +1,10 @@
 -- The plan of the phase in which rows move: its changes fit and give the phase.
-use Rattle.sim_plans.proofs.Common.{Option, Plans, Point, refl, Row, row_of, set_by_all, Setup, Some, State, Stays, step_changes, Still, subst, Suits, sym}
-use Rattle.sim_plans.proofs.Common.{Template, target_of, template_of, true, unsigned_abs, way_of, ℕ, ℤ, ◌∙◌, ◌∷◌, ◌≡◌}
-use Rattle.sim_plans.proofs.Common.{[], All, All-nil, all_at, along_found, ap, arms_of, Bool, Both, both_same, chasing, false, field_of, goes_on, Going}
-use Rattle.sim_plans.proofs.Common.{is_some, IsKnownRow, IsLooselyValid, IsValidMotion, IsValidRow, known_row, List, Motion, move_plan, moved, moved_by, None}
-use Rattle.sim_plans.proofs.{GoingOn.goes_on_same, RowByRow.row_by_row_to, Suiting.step_changes-set, Suiting.step_changes_suit}
-use Rattle.{sim_base.specs.Rows.speed_of, sim_base.specs.Turn.moved_row, sim_laws.proofs.Commanding.moved_row_stays, sim_plans.specs.Plans.move_changes_by}
-use Rattle.{sim_plans.specs.Plans.move_changes_of, std.proofs.Common.◌/◌}
+use Rattle.{sim_base.specs.{Rows.speed_of, Turn.moved_row}, sim_laws.proofs.Commanding.moved_row_stays}
+use Rattle.sim_plans.proofs.Common.{All, All-nil, all_at, along_found, ap, arms_of, Bool, Both, both_same, chasing, false, field_of, goes_on, Going, is_some}
+use Rattle.sim_plans.proofs.Common.{IsKnownRow, IsLooselyValid, IsValidMotion, IsValidRow, known_row, List, Motion, move_plan, moved, moved_by, None, Option}
+use Rattle.sim_plans.proofs.Common.{Plans, Point, refl, Row, row_of, set_by_all, Setup, Some, State, Stays, step_changes, Still, subst, Suits, sym, target_of}
+use Rattle.sim_plans.proofs.{Common.{Template, template_of, true, unsigned_abs, way_of, ℕ, ℤ, [], ◌∙◌, ◌∷◌, ◌≡◌}, GoingOn.goes_on_same, RowByRow.row_by_row_to}
+use Rattle.{sim_plans.{proofs.Suiting.{step_changes-set, step_changes_suit}, specs.Plans.{move_changes_by, move_changes_of}}, std.proofs.Common.◌/◌}
 
 -- a row that moves changes in its place and its motion alone
 abbrev OnlyMoves : Row → Row → Type 0

@@ -1,23 +1,21 @@
 -- A row is removed: the notes of those who are let go, and then of the one that leaves.
 use Rattle.sim_base.specs.declared.change.Change.TheVariants as change
-use Rattle.sim_base.specs.{Commands.applied, Commands.new_row, Commands.with_new, Limits.Both, Limits.IsArms, Limits.IsFrom, Limits.IsRawFrom}
-use Rattle.sim_base.specs.{Limits.has_health, Places.rect_of, declared.change.Change.Change, declared.template.Base.Base}
-use Rattle.sim_laws.proofs.{Neighbours.Has-append_right, Neighbours.Has-map, Removing.released_stays, Removing.removed_is_state, Removing.same_stays}
-use Rattle.sim_laws.proofs.{Removing.target_of-released, Validity.Stays, Validity.all_from, Validity.map-map, Validity.mapped_is_state, Validity.row_found}
-use Rattle.sim_plans.proofs.FactLists.{Aimed, apart, Apart, arith, Bool, false, id_of, keeps, Moved, ne_eqb, noted, OfRow, Option, Owned, Point, row_of, ⊎_elim}
-use Rattle.sim_plans.proofs.FactLists.{AllNotesFit, cond_both, facts-length, facts-without, id_of_fact, MatchOption, no_obstruction, of_each_named, release_all}
-use Rattle.sim_plans.proofs.FactLists.{Arms, fact_with, found_row, IsInRange, IsKnownRow, IsValidAim, known_row, let_go_all, option_map, removed_is, row_behind}
-use Rattle.sim_plans.proofs.FactLists.{Born, cond, Fact, find, Fits, fold, Gone, kept, Kind, List, None, Note, part, Range, refl, Setup, State, subst, Watch, ℕ}
-use Rattle.sim_plans.proofs.FactLists.{[], Aim, ap, Has, inl, inr, map, not, Row, Some, sym, true, ℤ, ◌&&◌, ◌++◌, ◌<◌, ◌==◌, ◌∙◌, ◌∷◌, ◌≡◌, ◌≤◌}
-use Rattle.sim_plans.proofs.FactLists.{aim_of, fact_with-none, facts-appended, facts-replaced, IsLooselyValid, known_template, option_and_then, part-hurt_range}
-use Rattle.sim_plans.proofs.FactLists.{all_at, eqb-true, facts_of, IsInside, named_row, part_for, released, target_of, Template, unwrap_or, watchers, with_kept}
-use Rattle.sim_plans.proofs.FactLists.{arms_of, Census, fact_of, filter, Ground, IsSetup, IsSome, length, let_go, Motion, part-id, removed, with_row, without}
-use Rattle.sim_plans.proofs.FactLists.{fact_with-facts, facts-changed, facts-unchanged, part-aimed_watch, part-moved_ground, part-moved_range, part-owned_range}
-use Rattle.sim_plans.specs.{FactLaws.ChangeIsNoted, FactLaws.NotesOfAChangeFit, FactLaws.StateIsInRange, Releases.AreWatching, Releases.IsBelowAll}
-use Rattle.sim_plans.{proofs.Applying.fitting_keeps, specs.RowChanges.most_of}
-use Rattle.sim_system.specs.Notes.{Agrees, IsRectAt, NoteFits, posts, posts_born, posts_on}
-use Rattle.std.proofs.lemmas.{Bool.cond-false, List.Elements.All-map, List.Sums.fold-append, List.length-map}
-use Rattle.std.specs.{List.Sorted.IsStrictlyIncreasing, Prelude.IfSome, Prelude.IsTrue, Prelude.pos, Prelude.slice_get, Prelude.◌≢◌, Prelude.◌≤ℤ◌}
+use Rattle.sim_base.specs.{Commands.{applied, new_row, with_new}, declared.{change.Change.Change, template.Base.Base}, Limits.{Both, has_health, IsArms}}
+use Rattle.{sim_base.specs.{Limits.{IsFrom, IsRawFrom}, Places.rect_of}, sim_laws.proofs.{Neighbours.{Has-append_right, Has-map}, Removing.released_stays}}
+use Rattle.sim_laws.proofs.{Removing.{removed_is_state, same_stays, target_of-released}, Validity.{all_from, map-map, mapped_is_state, row_found, Stays}}
+use Rattle.sim_plans.proofs.{Applying.fitting_keeps, FactLists.{Aim, aim_of, Aimed, all_at, AllNotesFit, ap, Apart, apart, arith, Arms, arms_of, Bool, Born}}
+use Rattle.sim_plans.proofs.FactLists.{Census, cond, cond_both, eqb-true, Fact, fact_of, fact_with, fact_with-facts, fact_with-none, facts-appended}
+use Rattle.sim_plans.proofs.FactLists.{facts-changed, facts-length, facts-replaced, facts-unchanged, facts-without, facts_of, false, filter, find, Fits, fold}
+use Rattle.sim_plans.proofs.FactLists.{found_row, Gone, Ground, Has, id_of, id_of_fact, inl, inr, IsInRange, IsInside, IsKnownRow, IsLooselyValid, IsSetup}
+use Rattle.sim_plans.proofs.FactLists.{IsSome, IsValidAim, keeps, kept, Kind, known_row, known_template, length, let_go, let_go_all, List, map, MatchOption}
+use Rattle.sim_plans.proofs.FactLists.{Motion, Moved, named_row, ne_eqb, no_obstruction, None, not, Note, noted, of_each_named, OfRow, Option, option_and_then}
+use Rattle.sim_plans.proofs.FactLists.{option_map, Owned, part, part-aimed_watch, part-hurt_range, part-id, part-moved_ground, part-moved_range}
+use Rattle.sim_plans.proofs.FactLists.{part-owned_range, part_for, Point, Range, refl, release_all, released, removed, removed_is, Row, row_behind, row_of}
+use Rattle.sim_plans.proofs.FactLists.{Setup, Some, State, subst, sym, target_of, Template, true, unwrap_or, Watch, watchers, with_kept, with_row, without, ℕ}
+use Rattle.sim_plans.{proofs.FactLists.{ℤ, ⊎_elim, [], ◌&&◌, ◌++◌, ◌<◌, ◌==◌, ◌∙◌, ◌∷◌, ◌≡◌, ◌≤◌}, specs.FactLaws.{ChangeIsNoted, NotesOfAChangeFit}}
+use Rattle.{sim_plans.specs.{FactLaws.StateIsInRange, Releases.{AreWatching, IsBelowAll}, RowChanges.most_of}, sim_system.specs.Notes.Agrees}
+use Rattle.{sim_system.specs.Notes.{IsRectAt, NoteFits, posts, posts_born, posts_on}, std.proofs.lemmas.{Bool.cond-false, List.{Elements.All-map, length-map}}}
+use Rattle.std.{proofs.lemmas.List.Sums.fold-append, specs.{List.Sorted.IsStrictlyIncreasing, Prelude.{IfSome, IsTrue, pos, slice_get, ◌≢◌, ◌≤ℤ◌}}}
 
 -- The facts of a changed state, and that the notes of a change fit.
 

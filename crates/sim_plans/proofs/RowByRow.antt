@@ -1,17 +1,16 @@
 -- Changes that each touch their own row, taken row by row, fit in order and give the state in which each row is changed.
 use Rattle.sim_base.specs.declared.change.Change.TheVariants as change
-use Rattle.sim_base.specs.{Limits.IsState, Turn.Hit, Turn.hitting, Turn.hurt, Turn.taken_from, Turn.with_cooldown}
-use Rattle.sim_laws.proofs.Hitting.{fought, fought_by, fought_stays, hitting-rows, hitting-word, struck}
-use Rattle.sim_plans.proofs.Common.{IsValidAim, IsValidRow, known_row, List, list_any, map, mapped_is_state, MatchOption, most_of, ne_eqb, None, Option}
-use Rattle.sim_plans.proofs.Common.{Template, template_of, true, with_word, ℕ, ℤ, ⊎_elim, ◌&&◌, ◌++◌, ◌-◌, ◌==◌, ◌||◌, ◌∙◌, ◌∷◌, ◌≡◌, ◌≢◌, ◌≤ℤ◌, ◌≤◌}
-use Rattle.sim_plans.proofs.Common.{[], Aim, All, All-head, All-nil, All-tail, All-weaker, all_at, AllFit, ap, Apart, apart, applied, applied_all, arith, Arms}
+use Rattle.sim_base.specs.{Limits.IsState, Turn.{Hit, hitting, hurt, taken_from, with_cooldown}}
+use Rattle.sim_laws.proofs.{Hitting.{fought, fought_by, fought_stays, hitting-rows, hitting-word, struck}, Neighbours.Has-append_cases, Validity.map_agree}
+use Rattle.sim_plans.proofs.Common.{Aim, All, All-head, All-nil, All-tail, All-weaker, all_at, AllFit, ap, Apart, apart, applied, applied_all, arith, Arms}
 use Rattle.sim_plans.proofs.Common.{arms_of, Bool, Both, Change, cond, cond_both, eq-eqb, eqb-true, false, find, Fits, flat_map, fold-append, Has, has_health}
 use Rattle.sim_plans.proofs.Common.{hit, hit_plan, id_of, inl, inr, ints, is_near, is_some, IsKnownRow, IsLooselyValid, IsPlanOf, IsStrictlyIncreasing, IsTrue}
+use Rattle.sim_plans.proofs.Common.{IsValidAim, IsValidRow, known_row, List, list_any, map, mapped_is_state, MatchOption, most_of, ne_eqb, None, Option}
 use Rattle.sim_plans.proofs.Common.{option_and_then, Plans, pos, refl, Row, row_of, set_by, set_by_all, Setup, slice_get, Some, State, subst, Suits, sym}
-use Rattle.sim_plans.specs.Plans.{cooldown_change, fight_changes_by, fight_changes_of, hurt_changes_by, hurt_changes_of, RowByRow, strike_changes}
-use Rattle.std.proofs.lemmas.{Bool.cond-false, Bool.cond-true, Int.clamps, List.Folds.flat_map-map, List.Folds.list_any-append, List.map-append, List.map-id}
-use Rattle.{sim_laws.proofs.Neighbours.Has-append_cases, sim_laws.proofs.Validity.map_agree, sim_plans.proofs.Suiting.attack_suits}
-use Rattle.{sim_plans.proofs.Suiting.one_suits, std.proofs.Common.append_assoc, std.proofs.Common.◌-ℤ◌, std.specs.Int.int_max}
+use Rattle.sim_plans.proofs.Common.{Template, template_of, true, with_word, ℕ, ℤ, ⊎_elim, [], ◌&&◌, ◌++◌, ◌-◌, ◌==◌, ◌||◌, ◌∙◌, ◌∷◌, ◌≡◌, ◌≢◌, ◌≤ℤ◌, ◌≤◌}
+use Rattle.sim_plans.{proofs.Suiting.{attack_suits, one_suits}, specs.Plans.{cooldown_change, fight_changes_by, fight_changes_of, hurt_changes_by}}
+use Rattle.{sim_plans.specs.Plans.{hurt_changes_of, RowByRow, strike_changes}, std.proofs.Common.{append_assoc, ◌-ℤ◌}}
+use Rattle.std.{proofs.lemmas.{Bool.{cond-false, cond-true}, Int.clamps, List.{Folds.{flat_map-map, list_any-append}, map-append, map-id}}, specs.Int.int_max}
 
 -- ---- plans one after another
 

@@ -1,12 +1,11 @@
 -- The changes by which a row takes a target, stands still, or comes to stand and go as another one: they suit it, and make just that of it.
 use Rattle.sim_base.specs.declared.change.Change.TheVariants as change
-use Rattle.sim_plans.proofs.Common.{IsValidMotion, IsValidRow, List, MatchOption, Motion, None, Option, option_and_then, Point, refl, Row, same_point, set_by}
-use Rattle.sim_plans.proofs.Common.{[], Aim, aimed_at, All, All-append, All-cons, All-nil, and_parts, ap, arith, Arms, arms_of, Bool, Both, Change, cond}
-use Rattle.sim_plans.proofs.Common.{cond_both, eqb-true, false, fold-append, goes_on, Going, halted, int_eq, is_some, IsInside, IsSome, IsTarget, IsValidAim}
-use Rattle.sim_plans.proofs.Common.{set_by_all, Setup, Some, stance_changes, step_changes, Still, subst, Suits, sym, Template, template_of, true, ℕ, ◌&&◌, ◌++◌}
-use Rattle.sim_plans.specs.Plans.{halt_changes, motion_changes, stand_changes, target_changes, turn_changes}
-use Rattle.{sim_base.specs.Commands.with_stance, sim_plans.proofs.Common.◌==◌, sim_plans.proofs.Common.◌∙◌, sim_plans.proofs.Common.◌∷◌}
-use Rattle.{sim_plans.proofs.Common.◌≡◌, std.specs.Bool.beq, std.specs.Cmp.booleans_Decides}
+use Rattle.{sim_base.specs.Commands.with_stance, sim_plans.proofs.Common.{Aim, aimed_at, All, All-append, All-cons, All-nil, and_parts, ap, arith, Arms}}
+use Rattle.sim_plans.proofs.Common.{arms_of, Bool, Both, Change, cond, cond_both, eqb-true, false, fold-append, goes_on, Going, halted, int_eq, is_some}
+use Rattle.sim_plans.proofs.Common.{IsInside, IsSome, IsTarget, IsValidAim, IsValidMotion, IsValidRow, List, MatchOption, Motion, None, Option, option_and_then}
+use Rattle.sim_plans.proofs.Common.{Point, refl, Row, same_point, set_by, set_by_all, Setup, Some, stance_changes, step_changes, Still, subst, Suits, sym}
+use Rattle.sim_plans.proofs.Common.{Template, template_of, true, ℕ, [], ◌&&◌, ◌++◌, ◌==◌, ◌∙◌, ◌∷◌, ◌≡◌}
+use Rattle.{sim_plans.specs.Plans.{halt_changes, motion_changes, stand_changes, target_changes, turn_changes}, std.specs.{Bool.beq, Cmp.booleans_Decides}}
 
 -- a list of one change, or of none
 pub one_suits : (setup : Setup) (rows : List Row) (row : Row) (c : Change) → Suits setup rows row c → All (Suits setup rows row) (c ∷ [])

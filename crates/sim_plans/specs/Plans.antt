@@ -3,11 +3,10 @@ use Rattle.sim_base.specs.declared.change.Change.TheVariants as change
 use Rattle.sim_plans.specs.Common.{Aim, applied, applied_all, Arms, arms_of, Attack, beq, Cell, centre_of, Change, Command, commanded, Delete, Going, has_room}
 use Rattle.sim_plans.specs.Common.{Hit, hitting, id_of, int_max, is_enemy, is_idle, is_inside, is_near, is_ordered, is_placeable, is_spent, IsLooselyValid}
 use Rattle.sim_plans.specs.Common.{IsOrderOf, IsSetup, IsStrictlyIncreasing, IsValid, lets_go, Motion, moved_row, Place, PlayerCommand, Point, Resign, Row}
-use Rattle.sim_plans.specs.Common.{Train, trains, turn, Walk}
 use Rattle.sim_plans.specs.Common.{row_of, same_point, Setup, size_of, speed_of, spot, State, Still, Stop, taken_from, target_for, target_of, template_of, Tick}
-use Rattle.sim_plans.specs.RowChanges.{AllFit, Fits, OfRow, set_by_all, Suits}
-use Rattle.std.specs.Prelude.{[], All, Bool, false, filter, if◌then◌else◌, length, List, map, None, Option, pos, slice_get, Some, true, ℕ, ℤ, ◌&&◌, ◌++◌, ◌-ℤ◌}
-use Rattle.std.specs.{List.flat_map, Prelude.◌-◌, Prelude.◌<◌, Prelude.◌==◌, Prelude.◌∷◌, Prelude.◌≡◌}
+use Rattle.sim_plans.specs.{Common.{Train, trains, turn, Walk}, RowChanges.{AllFit, Fits, OfRow, set_by_all, Suits}}
+use Rattle.std.specs.{List.flat_map, Prelude.{All, Bool, false, filter, if◌then◌else◌, length, List, map, None, Option, pos, slice_get, Some, true, ℕ, ℤ, []}}
+use Rattle.std.specs.Prelude.{◌&&◌, ◌++◌, ◌-ℤ◌, ◌-◌, ◌<◌, ◌==◌, ◌∷◌, ◌≡◌}
 
 -- Changes of one row. A part that has its value already is not set again.
 

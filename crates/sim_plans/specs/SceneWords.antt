@@ -1,7 +1,6 @@
 -- When a scene stands.
-use Rattle.sim_base.specs.{Limits.IsLooselyValid, Limits.IsSetup, declared.setup.Setup.Setup, declared.state.State.State}
-use Rattle.sim_plans.specs.declared.scene.Scene.{Scene}
-use Rattle.sim_system.specs.{Meanings.AreFed, Meanings.Systems, RigWords.systems_of, declared.system.System.Ghosts}
+use Rattle.{sim_base.specs.{declared.{setup.Setup.Setup, state.State.State}, Limits.{IsLooselyValid, IsSetup}}, sim_plans.specs.declared.scene.Scene.Scene}
+use Rattle.sim_system.specs.{declared.system.System.Ghosts, Meanings.{AreFed, Systems}, RigWords.systems_of}
 
 -- the setup is within its limits, the state loosely valid, and the systems were told of it
 pub record IsStanding (setup : Setup) (state : State) (s : Systems) : Type 0 where

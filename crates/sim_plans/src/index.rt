@@ -1,12 +1,10 @@
 //! The places of rows, noted once for the many questions of a phase.
 
-ghost use Rattle.std.specs.List.{HoldsAt};
-ghost use Rattle.std.specs.Prelude.{◌≡◌, ◌<◌, map, length, IfSome, MatchOption, Some, None, option_copied};
-ghost use Rattle.sim_plans.specs.{Common.id_of, Common.IsStrictlyIncreasing, Common.row_of, Found.found};
+ghost use Rattle.sim_plans.specs.{Common.{id_of, IsStrictlyIncreasing, row_of}, Found.found};
+ghost use Rattle.std.specs.{List.HoldsAt, Prelude.{IfSome, length, map, MatchOption, None, option_copied, Some, ◌<◌, ◌≡◌}};
 
 use crate::lookups;
-use sim_base::{OutOfMemory, Row, State};
-use std::alloc::Global;
+use sim_base::{Global, OutOfMemory, Row, State};
 
 // How many places are noted at most, one for each remainder of an id.
 const NOTES: usize = 4096;

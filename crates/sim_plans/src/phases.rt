@@ -1,7 +1,6 @@
 //! Laws of the changes of a phase.
 
-ghost use Rattle.sim_plans.specs.Common.{aimed, gone, hit, moved};
-ghost use Rattle.sim_plans.specs.Plans.{aim_plan, gone_plan, hit_plan, move_plan, Plans};
+ghost use Rattle.sim_plans.specs.{Common.{aimed, gone, hit, moved}, Plans.{aim_plan, gone_plan, hit_plan, move_plan, Plans}};
 
 /// The changes by which fighters choose their targets.
 pub fn aims_are_planned()

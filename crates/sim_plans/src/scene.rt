@@ -1,8 +1,7 @@
 //! A moment of a match, which can be asked.
 
+ghost use Rattle.{sim_plans.specs.SceneWords.Stands, sim_system.specs.Meanings.{answer_over, MayAsk, NeedsNoMemory}};
 ghost use Rattle.std.specs.Prelude.{IfOk, IsOk, ◌≡◌};
-ghost use Rattle.sim_plans.specs.SceneWords.{Stands};
-ghost use Rattle.sim_system.specs.Meanings.{answer_over, MayAsk, NeedsNoMemory};
 
 use sim_base::{OutOfMemory, Setup, State};
 use sim_system::{Answer, Ask, Kind, Rig, System, boxed};

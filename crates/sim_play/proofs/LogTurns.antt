@@ -1,10 +1,9 @@
 -- One turn of a log more, and the match's own turns as those of a log.
-use Rattle.{sim_turn.proofs.Counting.players_at, std.proofs.lemmas.List.length-take-le}
-use Rattle.sim_play.proofs.Common.{take_more, Turn, turn, turns_in, ◌∙◌}
-use Rattle.sim_play.proofs.Common.{after, after_counts_turns, All-cons, All-nil, ap, arith, Bend, digest, digests_after, IsOfTurns, IsOrderOf, IsSetup}
-use Rattle.sim_play.proofs.Common.{last_state, length-map-range_with_len, Log, log_after, map-append, map-range_with_len_more, match_turns, orders_at}
-use Rattle.sim_play.proofs.Common.{own_turns, Past, past_of, PlayerCommand, range_with_len, reverse-append, Setup, State, state_after, subst, sym, take_all}
-use Rattle.sim_play.proofs.Common.{◌≡◌, ℕ, zero, suc, ◌+◌, ◌<◌, ◌≤◌, List, [], ◌∷◌, ◌++◌, map, reverse, length, get_or, take, IfOk, Ok, Err, All, Result, refl}
+use Rattle.sim_play.proofs.Common.{after, after_counts_turns, All, All-cons, All-nil, ap, arith, Bend, digest, digests_after, Err, get_or, IfOk, IsOfTurns}
+use Rattle.sim_play.proofs.Common.{IsOrderOf, IsSetup, last_state, length, length-map-range_with_len, List, Log, log_after, map, map-append}
+use Rattle.sim_play.proofs.Common.{map-range_with_len_more, match_turns, Ok, orders_at, own_turns, Past, past_of, PlayerCommand, range_with_len, refl, Result}
+use Rattle.sim_play.proofs.Common.{reverse, reverse-append, Setup, State, state_after, subst, suc, sym, take, take_all, take_more, Turn, turn, turns_in, zero}
+use Rattle.{sim_play.proofs.Common.{ℕ, [], ◌++◌, ◌+◌, ◌<◌, ◌∙◌, ◌∷◌, ◌≡◌, ◌≤◌}, sim_turn.proofs.Counting.players_at, std.proofs.lemmas.List.length-take-le}
 
 -- ---- the past of turns
 

@@ -1,8 +1,7 @@
 -- One turn more is played, and what becomes of the systems.
-use Rattle.sim_board.{proofs.Counting.most_kept, specs.declared.board.Board.Board}
-use Rattle.sim_play.proofs.Common.{◌+◌, ◌-◌, ◌∙◌, ◌≡◌, ap, arith, from, from_counts_turns, OnOk, orders_at, own_turns, Result, Setup, setup_in, State, state_in}
-use Rattle.sim_play.{proofs.Common.subst, proofs.Common.suc, proofs.Common.systems_by, proofs.Common.turn, proofs.Common.ℕ, specs.Playing.ComesToBy}
-use Rattle.{sim_play.specs.Playing.GoesOnToBy, sim_system.specs.Meanings.AreBuiltOnceAtMost, sim_system.specs.Meanings.Meaning}
+use Rattle.{sim_board.{proofs.Counting.most_kept, specs.declared.board.Board.Board}, sim_play.proofs.Common.{ap, arith, from, from_counts_turns, OnOk}}
+use Rattle.sim_play.proofs.Common.{orders_at, own_turns, Result, Setup, setup_in, State, state_in, subst, suc, systems_by, turn, ℕ, ◌+◌, ◌-◌, ◌∙◌, ◌≡◌}
+use Rattle.{sim_play.specs.Playing.{ComesToBy, GoesOnToBy}, sim_system.specs.Meanings.{AreBuiltOnceAtMost, Meaning}}
 
 module _ (setup : Setup) (old new : State) (t : ℕ) (at : old.turn ≡ t) (is : new ≡ from setup old (own_turns setup old.turn (t + 1 - old.turn))) where
   one : t + 1 - old.turn ≡ 1

@@ -1,7 +1,6 @@
 -- The territories of a state, as text.
-use Rattle.std.specs.List.{flat_map}
-use Rattle.std.specs.Prelude.{◌≡◌, ℕ, Bool, ◌&&◌, List, ◌++◌, ◌==◌, count_by, zip}
 use Rattle.sim_play.specs.Common.{AreRooted, holders_in, holding_line, map_line, md5, range_with_len, RealmOf}
+use Rattle.std.specs.{List.flat_map, Prelude.{Bool, count_by, List, zip, ℕ, ◌&&◌, ◌++◌, ◌==◌, ◌≡◌}}
 
 -- how many cells a player holds
 abbrev pub held : List ℕ → ℕ → ℕ

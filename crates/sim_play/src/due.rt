@@ -3,8 +3,7 @@
 ghost use Rattle.std.specs.Prelude.{◌≡◌, map, IfOk};
 ghost use Rattle.sim_play.specs.Common.{Timed as AnyTimed};
 
-use sim_base::{OutOfMemory, PlayerCommand, Timed};
-use std::alloc::Global;
+use sim_base::{Global, OutOfMemory, PlayerCommand, Timed};
 
 /// The commands without their turns, in their order.
 pub fn commands_of(alloc: Global, timeds: &[Timed]) -> Result<Vec<PlayerCommand>, OutOfMemory>

@@ -5,13 +5,12 @@ ghost use Rattle.sim_play.specs.{Common.IsValid, Common.setup_in, Common.systems
 ghost use Rattle.sim_play.specs.{Films.is_told as is_turn_told, Films.last_state, Films.told_frame, Playing.ComesTo, Playing.HasPlayed, Playing.MayBegin};
 
 use crate::lines::push_line;
-use sim_base::{OutOfMemory, Setup, State};
+use sim_base::{Global, OutOfMemory, Setup, State};
 use sim_board::Board;
 use sim_orders::OrderTable;
 use sim_report::{push_show, push_ways};
 use sim_system::{Rig, System};
 use sim_turn::play;
-use std::alloc::Global;
 
 /// The states of a match at turns so many apart, from turn 0 on, and always that of the last one. The rig comes back; where
 /// there was memory, it stands for the last state.

@@ -4,13 +4,12 @@ ghost use Rattle.std.specs.Prelude.{OnOk, ◌-◌, ◌≡◌};
 ghost use Rattle.sim_play.specs.{Common.from, Common.own_turns, Common.setup_in, Common.state_in, Common.vision_after, Lines.later_of, Playing.GoesOnTo};
 ghost use Rattle.sim_turn.specs.Turns.{MayPlayUntil};
 
-use sim_base::OutOfMemory;
+use sim_base::{Global, OutOfMemory};
 use sim_board::Board;
 use sim_orders::OrderTable;
 use sim_system::System;
 use sim_turn::play;
 use sim_vision::Sight;
-use std::alloc::Global;
 
 /// Plays a board to a turn, and has a sight follow each state behind that of the board.
 pub fn follow_until(

@@ -1,14 +1,12 @@
 //! What a realm tells: how many cells each player holds, how many of these are rooted, and a digest of all holders.
 
-ghost use Rattle.std.specs.{List.flat_map, Prelude.IfOk, Prelude.OnOk, Prelude.string_bytes};
-ghost use Rattle.std.specs.Prelude.{◌≡◌, ℕ, ◌+◌, ◌<◌, ◌≤◌, ◌++◌, ◌==◌, if◌then◌else◌, slice_index};
-ghost use Rattle.sim_play.specs.{Common.range_with_len, Realms.held as held_in, Realms.held_rooted as held_rooted_in, Realms.player_line, Realms.TellsRealm};
+ghost use Rattle.sim_play.specs.{Common.range_with_len, Realms.{held as held_in, held_rooted as held_rooted_in, player_line, TellsRealm}};
+ghost use Rattle.std.specs.{List.flat_map, Prelude.{IfOk, if◌then◌else◌, OnOk, slice_index, string_bytes, ℕ, ◌++◌, ◌+◌, ◌<◌, ◌==◌, ◌≡◌, ◌≤◌}};
 
 use md5::{Digest, Md5};
-use sim_base::OutOfMemory;
+use sim_base::{Global, OutOfMemory};
 use sim_report::{push_holding, push_map};
 use sim_territory::Realm;
-use std::alloc::Global;
 
 // Nobody, or one of at most eight players.
 const HOLDERS: usize = 9;

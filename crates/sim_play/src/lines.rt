@@ -4,14 +4,13 @@ ghost use Rattle.sim_play.specs.Common.{digest as digest_of, IsValid, setup_in, 
 ghost use Rattle.sim_play.specs.{Lines.end_from, Lines.turn_lines, Playing.GoesOnTo, Playing.MayGoOn};
 ghost use Rattle.std.specs.Prelude.{◌++◌, ◌-◌, ◌≡◌, ◌≤◌, OnOk, string_bytes, suc};
 
-use sim_base::{OutOfMemory, Setup, State};
+use sim_base::{Global, OutOfMemory, Setup, State};
 use sim_board::Board;
 use sim_codec::digest;
 use sim_orders::OrderTable;
 use sim_report::push_turn;
 use sim_system::System;
 use sim_turn::play;
-use std::alloc::Global;
 
 /// Appends the line of the turn at which a state stands, which begins with this word.
 pub fn push_line(

@@ -5,14 +5,13 @@ ghost use Rattle.sim_play.specs.Films.{digests_after as digests_of_turns, last_s
 ghost use Rattle.sim_play.specs.{Common.IsOrderOf, Common.setup_in, Common.systems, Common.systems_of, Playing.ComesTo, Playing.HasPlayed, Playing.MayBegin};
 
 use crate::own::match_turns;
-use sim_base::{OutOfMemory, Setup};
+use sim_base::{Global, OutOfMemory, Setup};
 use sim_board::Board;
 use sim_codec::digest;
 use sim_orders::OrderTable;
 use sim_replay::{Digests, Log, Orders, Turns};
 use sim_system::{Rig, System};
 use sim_turn::turn;
-use std::alloc::Global;
 
 // Starts a board, plays it by these commands, and gives the digest of each state.
 fn start_turns(

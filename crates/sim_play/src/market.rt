@@ -1,9 +1,8 @@
 //! The paid turns of a match, with a line for each.
 
+ghost use Rattle.sim_play.specs.Common.{books_of, IsEconomy, orders_at, paid_turn as paid_turn_by, setup_in, state_in, systems, total};
+ghost use Rattle.{sim_play.specs.{Paid.{paid_lines, paid_state, paid_stocks}, Playing.{ComesTo, MayBegin, MayGoOn}}, sim_stock.specs.PaidTurns.PaysTo};
 ghost use Rattle.std.specs.Prelude.{IfOk, OnOk, string_bytes, suc, ◌++◌, ◌+◌, ◌<◌, ◌^◌, ◌≡◌};
-ghost use Rattle.sim_play.specs.Common.{IsEconomy, books_of, orders_at, paid_turn as paid_turn_by, setup_in, state_in, systems, total};
-ghost use Rattle.sim_play.specs.{Paid.paid_lines, Paid.paid_state, Paid.paid_stocks, Playing.ComesTo, Playing.MayBegin, Playing.MayGoOn};
-ghost use Rattle.sim_stock.specs.PaidTurns.{PaysTo};
 
 use crate::due::commands_of;
 use crate::lines::push_line;

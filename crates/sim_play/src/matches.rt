@@ -1,17 +1,15 @@
 //! A match that is played with the systems of a rig, which is handed back.
 
-ghost use Rattle.std.specs.Prelude.{◌≡◌, ◌++◌, IfOk, OnOk, string_bytes};
-ghost use Rattle.sim_play.specs.{Common.systems, Common.systems_of, Lines.end_from, Lines.play_text as text_of_play, Lines.resume_text as text_of_resume};
-ghost use Rattle.sim_play.specs.Common.{after, first_state, IsValid, own_turns, setup_in, state_in};
-ghost use Rattle.sim_play.specs.Playing.{ComesTo, HasPlayed, MayBegin, MayReach, MayResume};
+ghost use Rattle.sim_play.specs.{Common.{after, first_state, IsValid, own_turns, setup_in, state_in, systems, systems_of}, Lines.end_from};
+ghost use Rattle.sim_play.specs.{Lines.{play_text as text_of_play, resume_text as text_of_resume}, Playing.{ComesTo, HasPlayed, MayBegin, MayReach, MayResume}};
+ghost use Rattle.std.specs.Prelude.{IfOk, OnOk, string_bytes, ◌++◌, ◌≡◌};
 
 use crate::lines::push_turns;
-use sim_base::{OutOfMemory, Setup, State};
+use sim_base::{Global, OutOfMemory, Setup, State};
 use sim_board::Board;
 use sim_orders::OrderTable;
 use sim_system::{Rig, System};
 use sim_turn::play;
-use std::alloc::Global;
 
 // Starts a board, and plays it to the end with a line for each turn.
 fn start_lines(

@@ -4,10 +4,9 @@ ghost use Rattle.std.specs.Prelude.{IfOk, ◌≡◌};
 ghost use Rattle.sim_play.specs.{Common.IsSetup, Films.match_turns as turns_of_match};
 
 use crate::due::commands_of;
-use sim_base::{Items, OutOfMemory, Setup};
+use sim_base::{Global, Items, OutOfMemory, Setup};
 use sim_replay::Turns;
 use sim_turn::due_at;
-use std::alloc::Global;
 
 /// The match's own turns, from 1 to the last.
 pub fn match_turns(alloc: Global, setup: &Setup) -> Result<Turns, OutOfMemory>

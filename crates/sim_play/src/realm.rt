@@ -1,16 +1,14 @@
 //! The territories of a match at a turn: a realm follows just the state of it.
 
-ghost use Rattle.sim_play.specs.Common.{after, IsSetup, IsValid, own_turns, realm_of, systems_of};
-ghost use Rattle.sim_play.specs.{Playing.HasPlayed, Playing.MayReach, Realms.TellsRealm};
-ghost use Rattle.std.specs.Prelude.{◌≡◌, IfOk, string_bytes};
+ghost use Rattle.sim_play.specs.{Common.{after, IsSetup, IsValid, own_turns, realm_of, systems_of}, Playing.{HasPlayed, MayReach}, Realms.TellsRealm};
+ghost use Rattle.std.specs.Prelude.{IfOk, string_bytes, ◌≡◌};
 
 use crate::holdings::told;
 use crate::matches::state_at;
-use sim_base::{OutOfMemory, Setup, State};
+use sim_base::{Global, OutOfMemory, Setup, State};
 use sim_orders::OrderTable;
 use sim_system::{Rig, System};
 use sim_territory::Realm;
-use std::alloc::Global;
 
 /// The lines of the territories of a turn of a match. The rig comes back; where there was memory, it stands for the state of
 /// that turn.

@@ -7,13 +7,12 @@ ghost use Rattle.sim_play.specs.Playing.{ComesTo, GoesOnTo, HasPlayed, MayReach,
 ghost use Rattle.{sim_play.specs.Lines.past_lines, sim_play.specs.Lines.rejoin_text as text_of_rejoin, sim_turn.specs.Turns.MayPlayUntil};
 
 use crate::lines::push_line;
-use sim_base::{OutOfMemory, Setup, State};
+use sim_base::{Global, OutOfMemory, Setup, State};
 use sim_board::Board;
 use sim_codec::{StateFault, load, spell};
 use sim_orders::OrderTable;
 use sim_system::{Rig, System};
 use sim_turn::play;
-use std::alloc::Global;
 
 /// The lines of a whole match, and those of a second client that loads the bytes of the first one's state at a turn and plays
 /// on. Both rigs come back; where there was memory, each stands for the last state.

@@ -6,12 +6,11 @@ ghost use Rattle.sim_play.specs.Lines.{end_from, later_of, resight_text as text_
 ghost use Rattle.sim_play.specs.Playing.{ComesTo, HasPlayed, MayReach, MayResume};
 
 use crate::following::follow_until;
-use sim_base::{OutOfMemory, Setup, State};
+use sim_base::{Global, OutOfMemory, Setup, State};
 use sim_board::Board;
 use sim_orders::OrderTable;
 use sim_system::{Rig, System};
 use sim_vision::{Sight, push_sight};
-use std::alloc::Global;
 
 // Starts a board, and tells what is seen and explored of its states up to a turn.
 fn tell_from_the_start(

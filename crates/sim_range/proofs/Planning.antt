@@ -1,10 +1,9 @@
 -- Buckets out of reach have nobody who sees the entity or is seen by it.
-use Rattle.sim_range.proofs.Common.{IsOut, IsPlaced, Land, List, mul-le, nat_lt, None, not, Option, Point, pos, refl, sees, SeesFrom, SeesWithin, slice_index}
-use Rattle.sim_range.proofs.Common.{Some, square, subst, sym, true, turned_seen, turned_watchers, unsigned_abs, ℕ, ℤ, ◌%◌, ◌&&◌, ◌*◌, ◌+◌, ◌-ℤ◌, ◌/◌, ◌<◌, ◌==◌}
-use Rattle.sim_range.proofs.Common.{[], All, All-head, All-tail, and_parts, ap, AreApart, ArePlaced, arith, below_bucket, Bool, bucket_key, cell_of, cond}
-use Rattle.sim_range.proofs.Common.{differ, eqb-true, Fact, false, HasOnlyMoved, held_in, IfSome, in_mask, ints, is_near, is_seen, is_seen_by, IsClose, IsInner}
-use Rattle.sim_range.proofs.Common.{◌∙◌, ◌∷◌, ◌≡◌, ◌≤ℤ◌, ◌≤◌}
-use Rattle.sim_range.proofs.Nearing.{chosen, chosen-cons, column_is, gap_le, row_is, small_west}
+use Rattle.sim_range.proofs.Common.{All, All-head, All-tail, and_parts, ap, AreApart, ArePlaced, arith, below_bucket, Bool, bucket_key, cell_of, cond, differ}
+use Rattle.sim_range.proofs.Common.{eqb-true, Fact, false, HasOnlyMoved, held_in, IfSome, in_mask, ints, is_near, is_seen, is_seen_by, IsClose, IsInner, IsOut}
+use Rattle.sim_range.proofs.Common.{IsPlaced, Land, List, mul-le, nat_lt, None, not, Option, Point, pos, refl, sees, SeesFrom, SeesWithin, slice_index, Some}
+use Rattle.sim_range.proofs.Common.{square, subst, sym, true, turned_seen, turned_watchers, unsigned_abs, ℕ, ℤ, [], ◌%◌, ◌&&◌, ◌*◌, ◌+◌, ◌-ℤ◌, ◌/◌, ◌<◌, ◌==◌}
+use Rattle.sim_range.proofs.{Common.{◌∙◌, ◌∷◌, ◌≡◌, ◌≤ℤ◌, ◌≤◌}, Nearing.{chosen, chosen-cons, column_is, gap_le, row_is, small_west}}
 use Rattle.std.proofs.lemmas.Bool.{le-leb}
 
 pub abs_swap : (a b : ℤ) → unsigned_abs (a -ℤ b) ≡ unsigned_abs (b -ℤ a)

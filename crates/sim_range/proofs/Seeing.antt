@@ -1,11 +1,10 @@
 -- What entities see when what is kept of one changes.
 use Rattle.sim_fact_lists.proofs.Ids.{Above as NumbersAbove}
-use Rattle.sim_range.proofs.{Nearing.chosen, Nearing.chosen-cons, Turning.Ups, Turning.with_without}
-use Rattle.sim_range.proofs.Common.{eq-eqb, Fact, fact_with, found_id, id_of_fact, in_mask, is_among, is_near, is_seen, is_seen_by, Land, Missing, only_itself}
-use Rattle.sim_range.proofs.Common.{nat_lt, ◌==◌, slice_index, Some, None, filter, Option, refl, Above, above_less, AgreeElsewhere, ap, arith, Ascend, differ}
-use Rattle.sim_range.proofs.Common.{placed, Rising, rising, rising_without, seen_by_vision, sight, subst, sym, turned, with_behind, with_first, with_id}
-use Rattle.sim_range.proofs.Common.{with_only, within_among, without, without_id, without_missing, ◌∙◌}
-use Rattle.sim_range.proofs.Common.{◌≡◌, ℕ, zero, suc, ◌<◌, ◌≤◌, Bool, true, false, cond, not, ◌&&◌, ◌||◌, List, [], ◌∷◌, map, length, get_or, ℤ, IfSome}
+use Rattle.sim_range.proofs.Common.{Above, above_less, AgreeElsewhere, ap, arith, Ascend, Bool, cond, differ, eq-eqb, Fact, fact_with, false, filter, found_id}
+use Rattle.sim_range.proofs.Common.{get_or, id_of_fact, IfSome, in_mask, is_among, is_near, is_seen, is_seen_by, Land, length, List, map, Missing, nat_lt, None}
+use Rattle.sim_range.proofs.Common.{not, only_itself, Option, placed, refl, Rising, rising, rising_without, seen_by_vision, sight, slice_index, Some, subst}
+use Rattle.sim_range.proofs.Common.{suc, sym, true, turned, with_behind, with_first, with_id, with_only, within_among, without, without_id, without_missing}
+use Rattle.sim_range.proofs.{Common.{zero, ℕ, ℤ, [], ◌&&◌, ◌<◌, ◌==◌, ◌||◌, ◌∙◌, ◌∷◌, ◌≡◌, ◌≤◌}, Nearing.{chosen, chosen-cons}, Turning.{Ups, with_without}}
 
 -- ---- what passes a test, when one fact comes or goes
 

@@ -1,8 +1,7 @@
 //! Which buckets come within reach of where an entity was and of where it is: those of a few rows and columns.
 
+ghost use Rattle.sim_range.specs.{Buckets.bucket_at, Common.{IsPlaced, Point}, Sights.{AreApart, AreOnGround, IsBeside, IsIn, IsOut}};
 ghost use Rattle.std.specs.Prelude.{IfSome, pos, unsigned_abs, ℕ, ℤ, ◌-ℤ◌, ◌/◌, ◌<ℤ◌, ◌≡◌, ◌≤ℤ◌, ◌≤◌};
-ghost use Rattle.sim_range.specs.Sights.{IsOut};
-ghost use Rattle.sim_range.specs.{Buckets.bucket_at, Common.IsPlaced, Common.Point, Sights.AreApart, Sights.AreOnGround, Sights.IsBeside, Sights.IsIn};
 
 use crate::span::{Area, Span};
 use sim_base::{Fixed, Point};

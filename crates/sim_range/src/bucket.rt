@@ -3,10 +3,9 @@
 ghost use Rattle.std.specs.Prelude.{◌≡◌, ◌<◌, [], map, IfSome, OnOk, IsSome, vec_len, vec_capacity};
 ghost use Rattle.sim_range.specs.Common.{Ascend, id_of_fact, with_only};
 
-use sim_base::OutOfMemory;
+use sim_base::{Global, OutOfMemory};
 use sim_fact_lists::place_near;
 use sim_system::Fact;
-use std::alloc::Global;
 
 /// Those who stand in it, ascending by id. The place of the last that was put is a hint for the next.
 #[derive(Drop)]

@@ -5,9 +5,8 @@ ghost use Rattle.sim_range.specs.Buckets.{AreBuckets, ArePlaced, HasRoom, HaveRo
 ghost use Rattle.sim_range.specs.{Common.Ascend, Common.IsPlaced, Common.with_only, Sights.Become, Sights.MayMove};
 
 use crate::bucket::Bucket;
-use sim_base::{OutOfMemory, Point, cell_of};
+use sim_base::{Global, OutOfMemory, Point, cell_of};
 use sim_system::Fact;
-use std::alloc::Global;
 
 /// The number of the bucket in which a point lies.
 pub fn bucket_of(at: Point) -> usize

@@ -10,10 +10,9 @@ use crate::crowd::{Crowd, Held};
 use crate::inner::is_inner;
 use crate::sight::Sight;
 use crate::visions::Visions;
-use sim_base::OutOfMemory;
+use sim_base::{Global, OutOfMemory};
 use sim_fact_lists::place_of;
 use sim_system::Fact;
-use std::alloc::Global;
 
 /// Those who begin to see an entity or see it no more, those whom it begins to see or sees no more, and what it will see. It
 /// keeps its room from note to note.

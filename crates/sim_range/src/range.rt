@@ -10,10 +10,9 @@ use crate::buckets::change;
 use crate::crowd::{Crowd, Held};
 use crate::ready::{Sights, built_of, make_ready};
 use crate::within::Circle;
-use sim_base::{Ids, Land, OutOfMemory};
+use sim_base::{Global, Ids, Land, OutOfMemory};
 use sim_fact_lists::{Kept, id_of, part_after, place_of};
 use sim_system::{Answer, Ask, Fact, Kind, Note, System};
-use std::alloc::Global;
 
 /// Keeps place, owner, health and vision of each entity that has health or can attack, and who stands in which bucket. One that
 /// was made to look keeps no more; any other also keeps whom each sees.

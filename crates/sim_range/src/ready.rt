@@ -12,10 +12,9 @@ use crate::plan::Plan;
 use crate::sight::Sight;
 use crate::sights::{make_rooms, put, sights_of, turn_all};
 use crate::visions::{Visions, visions_of};
-use sim_base::OutOfMemory;
+use sim_base::{Global, OutOfMemory};
 use sim_fact_lists::Kept;
 use sim_system::Fact;
-use std::alloc::Global;
 
 /// What all see, how far they do, and what the note that is taken up changes of it; nothing, unless it is kept.
 #[derive(Drop)]

@@ -8,10 +8,9 @@ use crate::crowd::Crowd;
 use crate::sight::Sight;
 use crate::watchers::mask_of;
 use crate::within::Circle;
-use sim_base::{Ids, OutOfMemory};
+use sim_base::{Global, Ids, OutOfMemory};
 use sim_fact_lists::find;
 use sim_system::Fact;
-use std::alloc::Global;
 
 impl Crowd<'_> {
     /// The enemies that an entity sees; none, where it cannot attack. It need not be one of these facts.

@@ -3,8 +3,7 @@
 ghost use Rattle.std.specs.Prelude.{◌≡◌, ◌<◌, [], OnOk, IsTrue, vec_len, vec_capacity};
 ghost use Rattle.sim_range.specs.{Common.IsStrictlyIncreasing, Sights.HasPlace, Sights.turned};
 
-use sim_base::OutOfMemory;
-use std::alloc::Global;
+use sim_base::{Global, OutOfMemory};
 
 /// The ids that an entity sees, ascending.
 #[derive(Drop)]

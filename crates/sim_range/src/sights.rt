@@ -7,10 +7,9 @@ ghost use Rattle.sim_range.specs.Sights.{AreChanging, AreSights, HasPlace, HaveR
 
 use crate::crowd::{Crowd, Held};
 use crate::sight::Sight;
-use sim_base::OutOfMemory;
+use sim_base::{Global, OutOfMemory};
 use sim_fact_lists::place_of;
 use sim_system::Fact;
-use std::alloc::Global;
 
 /// What each of these facts sees.
 pub fn sights_of(alloc: Global, crowd: &Crowd<'_>) -> Result<Vec<Sight>, OutOfMemory>

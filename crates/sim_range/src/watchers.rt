@@ -1,8 +1,7 @@
 //! Who sees whom.
 
-ghost use Rattle.std.specs.Prelude.{◌≡◌, ℕ, ◌<◌, false, length, IfSome, slice_index};
-ghost use Rattle.sim_range.specs.Common.{Fact, in_mask as in_mask_of, IsHeld};
-ghost use Rattle.sim_range.specs.Sights.{is_seen as is_seen_of, is_seen_by as is_seen_by_of, sees as sees_of};
+ghost use Rattle.sim_range.specs.{Common.{Fact, in_mask as in_mask_of, IsHeld}, Sights.{is_seen as is_seen_of, is_seen_by as is_seen_by_of, sees as sees_of}};
+ghost use Rattle.std.specs.Prelude.{false, IfSome, length, slice_index, ℕ, ◌<◌, ◌≡◌};
 
 use crate::crowd::Held;
 use crate::within::in_mask;

@@ -1,13 +1,11 @@
 //! Who is near a point: looked for in the buckets about it, or among all where these would be many.
 
-ghost use Rattle.std.specs.Prelude.{◌≡◌, ◌/◌, ◌<◌, ◌≤◌, ◌&&◌, ◌++◌, ℤ, pos, ◌-ℤ◌, ◌≤ℤ◌, IfOk, OnOk, IsTrue, unsigned_abs, All};
-ghost use Rattle.sim_range.specs.Buckets.{bucket_at};
-ghost use Rattle.sim_range.specs.Common.{in_mask as in_mask_of, is_inside, is_near as is_near_of, IsHeld, IsPlaced, size_of, within_among};
+ghost use Rattle.sim_range.specs.{Buckets.bucket_at, Common.{in_mask as in_mask_of, is_inside, is_near as is_near_of, IsHeld, IsPlaced, size_of, within_among}};
+ghost use Rattle.std.specs.Prelude.{All, IfOk, IsTrue, OnOk, pos, unsigned_abs, ℤ, ◌&&◌, ◌++◌, ◌-ℤ◌, ◌/◌, ◌<◌, ◌≡◌, ◌≤ℤ◌, ◌≤◌};
 
 use crate::crowd::{Crowd, Held};
-use sim_base::{Fixed, Ids, OutOfMemory, Point, square};
+use sim_base::{Fixed, Global, Ids, OutOfMemory, Point, square};
 use sim_system::Fact;
-use std::alloc::Global;
 
 /// Whether the mask has the bit of this owner.
 pub fn in_mask(mask: u32, owner: u8) -> bool

@@ -1,13 +1,12 @@
 -- What is read can be ended to a log, and the lines of a log are read as it.
-use Rattle.sim_replay.proofs.Common.{IsDigest, IsLog, IsOrder, le-leb, le-ltb, leb, leb-true, length, length-append, lines_from, List, Log, log_in, log_lines}
-use Rattle.sim_replay.proofs.Common.{PlayerCommand, Reading, refl, replicate, Resign, Setup, slice_index, Some, Stop, subst, suc, sum_by-append, sym, taken}
-use Rattle.sim_replay.proofs.Common.{[], add-zero, All, All-cons, All-drop, All-head, All-nil, All-push, All-rest, All-tail, and_from, and_parts, ap}
-use Rattle.sim_replay.proofs.Common.{append-nil, append_assoc, AreOrders, arith, Attack, BeginsLog, Bool, Command, CommandFits, cond, cond-false, cond-true}
-use Rattle.sim_replay.proofs.Common.{count_by, Delete, digest_in, digest_line, drop, drop-append_seam, eq-eqb, eqb-true, false, header_line, ids_in, is_by}
-use Rattle.sim_replay.proofs.Common.{lt-ltb, ltb, ltb-false, ltb-true, map, map-append, may_have, None, nothing, Option, order_in, order_line, Place}
-use Rattle.sim_replay.proofs.Common.{taken_by, taken_order, taken_other, Train, true, turn_lines, Walk, with_digest, with_order, zero, zero-add, ℕ, ◌&&◌, ◌++◌}
-use Rattle.sim_replay.proofs.Common.{◌+◌, ◌<◌, ◌==◌, ◌>>=◌, ◌^◌, ◌∙◌, ◌∷◌, ◌≡◌, ◌≤◌}
-use Rattle.sim_replay.proofs.Cuts.{bind_some, bound, passed}
+use Rattle.sim_replay.proofs.Common.{add-zero, All, All-cons, All-drop, All-head, All-nil, All-push, All-rest, All-tail, and_from, and_parts, ap, append-nil}
+use Rattle.sim_replay.proofs.Common.{append_assoc, AreOrders, arith, Attack, BeginsLog, Bool, Command, CommandFits, cond, cond-false, cond-true, count_by}
+use Rattle.sim_replay.proofs.Common.{Delete, digest_in, digest_line, drop, drop-append_seam, eq-eqb, eqb-true, false, header_line, ids_in, is_by, IsDigest}
+use Rattle.sim_replay.proofs.Common.{IsLog, IsOrder, le-leb, le-ltb, leb, leb-true, length, length-append, lines_from, List, Log, log_in, log_lines, lt-ltb}
+use Rattle.sim_replay.proofs.Common.{ltb, ltb-false, ltb-true, map, map-append, may_have, None, nothing, Option, order_in, order_line, Place, PlayerCommand}
+use Rattle.sim_replay.proofs.Common.{Reading, refl, replicate, Resign, Setup, slice_index, Some, Stop, subst, suc, sum_by-append, sym, taken, taken_by}
+use Rattle.sim_replay.proofs.Common.{taken_order, taken_other, Train, true, turn_lines, Walk, with_digest, with_order, zero, zero-add, ℕ, [], ◌&&◌, ◌++◌, ◌+◌}
+use Rattle.sim_replay.proofs.{Common.{◌<◌, ◌==◌, ◌>>=◌, ◌^◌, ◌∙◌, ◌∷◌, ◌≡◌, ◌≤◌}, Cuts.{bind_some, bound, passed}}
 use Rattle.sim_replay.proofs.PrintedLines.{digest_in-line, digest_in-order, digest_in-taken, order_in-line, order_in-taken}
 
 -- What is read of lines: it spells them, it can be ended to a log, and the lines of a log are read as it.

@@ -1,6 +1,5 @@
 -- Worked examples of lists of digests, and of words that spell numbers.
-use Rattle.std.proofs.Common.{[], List, None, refl, Some, ℕ, ◌∷◌, ◌≡◌}
-use Rattle.{sim_replay.specs.Apart.first_apart, sim_replay.specs.Logs.naturals_of, std.specs.Prelude.codes}
+use Rattle.{sim_replay.specs.{Apart.first_apart, Logs.naturals_of}, std.{proofs.Common.{List, None, refl, Some, ℕ, [], ◌∷◌, ◌≡◌}, specs.Prelude.codes}}
 unfoldable use Rattle.sim_replay.specs.Logs.{natural_of}
 
 -- of two turns that differ the first one is told

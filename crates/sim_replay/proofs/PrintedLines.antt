@@ -1,13 +1,12 @@
 -- A line is read as what it is printed of, and what is read of a line is printed so.
-use Rattle.sim_base.proofs.Lists.{bytes_eq-same}
-use Rattle.sim_replay.proofs.Common.{[], and_from, and_parts, ap, append_assoc, arith, behind, bytes_eq, bytes_eq-Decides, codes, command_text, CommandFits}
-use Rattle.sim_replay.proofs.Common.{cond-true, decimal, decode_of-ok, decode_sized, decode_sized-encode_lower, decode_sized-ok, decode_sized-twice}
-use Rattle.sim_replay.proofs.Common.{digest_front, digest_in, digest_line, digest_of, encode_lower, encode_with, Err, FromHexError, header_line, ids_in}
-use Rattle.sim_replay.proofs.Common.{is_utf8, is_utf8-from_IsUtf8, IsDigest, IsUtf8-from_ascii, length, List, list_all, lower_digits, None, Ok, order_front}
-use Rattle.sim_replay.proofs.Common.{order_in, order_line, order_of, PlayerCommand, refl, Result, result_ok, Setup, slice_index, Some, spelled, subst, suc, sym}
-use Rattle.sim_replay.proofs.Common.{text_in, true, zero, ℕ, ◌%◌, ◌*◌, ◌++◌, ◌/◌, ◌<◌, ◌^◌, ◌∙◌, ◌∷◌, ◌≡◌, ◌≤◌}
+use Rattle.{sim_base.proofs.Lists.bytes_eq-same, sim_replay.proofs.Common.{and_from, and_parts, ap, append_assoc, arith, behind, bytes_eq, bytes_eq-Decides}}
+use Rattle.sim_replay.proofs.Common.{codes, command_text, CommandFits, cond-true, decimal, decode_of-ok, decode_sized, decode_sized-encode_lower}
+use Rattle.sim_replay.proofs.Common.{decode_sized-ok, decode_sized-twice, digest_front, digest_in, digest_line, digest_of, encode_lower, encode_with, Err}
+use Rattle.sim_replay.proofs.Common.{FromHexError, header_line, ids_in, is_utf8, is_utf8-from_IsUtf8, IsDigest, IsUtf8-from_ascii, length, List, list_all}
+use Rattle.sim_replay.proofs.Common.{lower_digits, None, Ok, order_front, order_in, order_line, order_of, PlayerCommand, refl, Result, result_ok, Setup}
+use Rattle.sim_replay.proofs.Common.{slice_index, Some, spelled, subst, suc, sym, text_in, true, zero, ℕ, [], ◌%◌, ◌*◌, ◌++◌, ◌/◌, ◌<◌, ◌^◌, ◌∙◌, ◌∷◌, ◌≡◌, ◌≤◌}
 use Rattle.sim_replay.proofs.Cuts.{all-append, all-weaker, behind-append, bind_some, bound, is_inner, is_plain, order_of-text, passed, plain-command}
-use Rattle.sim_replay.proofs.{Cuts.plain-decimal, Cuts.plain_is_ascii, Cuts.plain_is_inner, FittingCommands.order_of-fits}
+use Rattle.sim_replay.proofs.{Cuts.{plain-decimal, plain_is_ascii, plain_is_inner}, FittingCommands.order_of-fits}
 
 -- ---- the spelling
 

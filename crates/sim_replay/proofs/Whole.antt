@@ -1,15 +1,14 @@
 -- Bytes that are read are the text of the log, and those that are refused are the text of none.
-use Rattle.sim_base.proofs.Lists.{bytes_eq-same}
-use Rattle.sim_replay.proofs.Common.{All, bytes_eq-Decides, join_with_byte-slice_split, length-slice_split, next_or_refused, take-append-drop, take-append_seam}
-use Rattle.sim_replay.proofs.Common.{All-append, All-weaker, append-nil, cond-false, false≢true, lines_from, or_refused, order_line, text_of_log, whole_lines}
-use Rattle.sim_replay.proofs.Common.{All-cons, All-head, All-tail, BeginsLog, Bool, bytes_eq, cases_lt, cond-true, log_lines, read_parts, take-take, turn_lines}
-use Rattle.sim_replay.proofs.Common.{All-map, All-nil, eqb-true, Err, flat_map, IsOrder, length, list_all, log_in, log_of, nothing, parts_of, Reading, take_all}
-use Rattle.sim_replay.proofs.Common.{[], arith, cond, drop, ended, false, IsLog, List, None, Option, refl, Result, Setup, Some, subst, take, taken, true, ◌>>=◌}
-use Rattle.sim_replay.proofs.Common.{ap, inl, inr, Log, map, Ok, suc, sym, zero, ℕ, ◌++◌, ◌+◌, ◌-◌, ◌<◌, ◌==◌, ◌^◌, ◌∙◌, ◌∷◌, ◌≡◌, ◌≤◌}
-use Rattle.sim_replay.proofs.Common.{append_assoc, AreOrders, digest_line, header_line, IsRefusedAt, join_with_byte, length-append, log_of_parts, PlayerCommand}
-use Rattle.sim_replay.proofs.Cuts.{bind_none, bind_some, inner_is_no_end, is_inner, split_first}
-use Rattle.sim_replay.proofs.Ending.{begins-read, between, ends-log, front, Front, log-taken, log_in-log, Small, spells-all, spells-nothing, taken_all}
-use Rattle.sim_replay.proofs.PrintedLines.{inner-digest_line, inner-header, inner-order_line}
+use Rattle.{sim_base.proofs.Lists.bytes_eq-same, sim_replay.proofs.Common.{All, All-append, All-cons, All-head, All-map, All-nil, All-tail, All-weaker, ap}}
+use Rattle.sim_replay.proofs.Common.{append-nil, append_assoc, AreOrders, arith, BeginsLog, Bool, bytes_eq, bytes_eq-Decides, cases_lt, cond, cond-false}
+use Rattle.sim_replay.proofs.Common.{cond-true, digest_line, drop, ended, eqb-true, Err, false, false≢true, flat_map, header_line, inl, inr, IsLog, IsOrder}
+use Rattle.sim_replay.proofs.Common.{IsRefusedAt, join_with_byte, join_with_byte-slice_split, length, length-append, length-slice_split, lines_from, List}
+use Rattle.sim_replay.proofs.Common.{list_all, Log, log_in, log_lines, log_of, log_of_parts, map, next_or_refused, None, nothing, Ok, Option, or_refused}
+use Rattle.sim_replay.proofs.Common.{order_line, parts_of, PlayerCommand, read_parts, Reading, refl, Result, Setup, Some, subst, suc, sym, take}
+use Rattle.sim_replay.proofs.Common.{take-append-drop, take-append_seam, take-take, take_all, taken, text_of_log, true, turn_lines, whole_lines, zero, ℕ, []}
+use Rattle.sim_replay.proofs.{Common.{◌++◌, ◌+◌, ◌-◌, ◌<◌, ◌==◌, ◌>>=◌, ◌^◌, ◌∙◌, ◌∷◌, ◌≡◌, ◌≤◌}, Cuts.{bind_none, bind_some, inner_is_no_end, is_inner}}
+use Rattle.sim_replay.proofs.{Cuts.split_first, Ending.{begins-read, between, ends-log, Front, front, log-taken, log_in-log, Small, spells-all, spells-nothing}}
+use Rattle.sim_replay.proofs.{Ending.taken_all, PrintedLines.{inner-digest_line, inner-header, inner-order_line}}
 
 -- ---- the parts of a text of lines
 

@@ -1,13 +1,12 @@
 -- Logs of a match: which logs it has, their lines and their text, and at which line bytes that are none are refused.
-use Rattle.sim_base.specs.declared.command.Command.TheVariants.{Attack, Delete, Place, Resign, Stop, Train, Walk}
-use Rattle.sim_base.specs.{Limits.IsFrom, NumberText.is_digit, NumberText.number_of, declared.command.Command.Command}
-use Rattle.std.specs.Prelude.{[], All, Bool, codes, count_by, decimal, drop, Err, flat_map, if◌then◌else◌, length, List, map, nat_le, nat_lt, None, Ok, Option}
-use Rattle.std.specs.Prelude.{take, ℕ, ◌&&◌, ◌++◌, ◌+◌, ◌-◌, ◌<◌, ◌==◌, ◌^◌, ◌∷◌, ◌≡◌, ◌≢◌, ◌≤◌}
-use Rattle.std.specs.{Borrow.Bor, List.after_first, List.before_first, List.list_all, List.slice_split, Prelude.Result, Prelude.Some, Prelude.option_map}
-use Rattle.{hex.specs.Hex.IsBytes, hex.specs.Hex.decode_sized, hex.specs.Hex.encode_lower, sim_base.specs.declared.command.PlayerCommand.PlayerCommand}
-use Rattle.{sim_base.specs.declared.place.Point.Point, sim_base.specs.declared.setup.Setup.Setup, sim_bytes.specs.Reading.◌>>=◌}
-use Rattle.{sim_replay.specs.declared.log.Log.Log, sim_replay.specs.declared.reading.Reading.Reading, sim_report.specs.Downs.turn_order_text}
-use Rattle.{sim_wire.specs.Reading.CommandFits, std.specs.Result.result_ok, std.specs.Str.Parse.digits_value, std.specs.Str.bytes_eq, std.specs.Str.is_utf8}
+use Rattle.hex.specs.Hex.{decode_sized, encode_lower, IsBytes}
+use Rattle.sim_base.specs.declared.command.{Command.{Command, TheVariants.{Attack, Delete, Place, Resign, Stop, Train, Walk}}, PlayerCommand.PlayerCommand}
+use Rattle.sim_base.specs.{declared.{place.Point.Point, setup.Setup.Setup}, Limits.IsFrom, NumberText.{is_digit, number_of}}
+use Rattle.sim_bytes.specs.Reading.{◌>>=◌}
+use Rattle.{sim_replay.specs.declared.{log.Log.Log, reading.Reading.Reading}, sim_report.specs.Downs.turn_order_text, sim_wire.specs.Reading.CommandFits}
+use Rattle.std.specs.{Borrow.Bor, List.{after_first, before_first, list_all, slice_split}, Prelude.{All, Bool, codes, count_by, decimal, drop, Err, flat_map}}
+use Rattle.std.specs.Prelude.{if◌then◌else◌, length, List, map, nat_le, nat_lt, None, Ok, Option, option_map, Result, Some, take, ℕ, [], ◌&&◌, ◌++◌, ◌+◌, ◌-◌}
+use Rattle.std.specs.{Prelude.{◌<◌, ◌==◌, ◌^◌, ◌∷◌, ◌≡◌, ◌≢◌, ◌≤◌}, Result.result_ok, Str.{bytes_eq, is_utf8, Parse.digits_value}}
 
 -- The lines of a log, each without the line feed at its end.
 

@@ -7,8 +7,7 @@ ghost use Rattle.sim_replay.specs.Logs.{order_of as order_of_text, place_of as p
 ghost use Rattle.sim_replay.specs.Logs.{walk_of as walk_of_text};
 
 use crate::words::{cut, ids_of, natural};
-use sim_base::{Command, Fixed, OutOfMemory, PlayerCommand, Point};
-use std::alloc::Global;
+use sim_base::{Command, Fixed, Global, OutOfMemory, PlayerCommand, Point};
 
 /// A player, and what it commands.
 #[tactic(auto, unfolding(crate::specs::Logs::order_of))]

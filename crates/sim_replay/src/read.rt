@@ -1,16 +1,14 @@
 //! A whole log, read: the line that names the match first, and then line by line.
 
-ghost use Rattle.std.specs.List.{position};
-ghost use Rattle.std.specs.Prelude.{[], IfOk, MatchOption, ℕ, ◌<◌, ◌==◌, ◌^◌, ◌∷◌, ◌≡◌};
-ghost use Rattle.sim_replay.specs.Logs.{IsFirstLine, IsLog, IsRefusedAt, log_of as log_of_bytes, nothing, parts_of, read_parts, text_of_log};
-ghost use Rattle.sim_replay.specs.{Meets.Meets, declared.log.Log.Log};
+ghost use Rattle.sim_replay.specs.declared.log.Log.{Log};
+ghost use Rattle.sim_replay.specs.{Logs.{IsFirstLine, IsLog, IsRefusedAt, log_of as log_of_bytes, nothing, parts_of, read_parts, text_of_log}, Meets.Meets};
+ghost use Rattle.std.specs.{List.position, Prelude.{IfOk, MatchOption, ℕ, [], ◌<◌, ◌==◌, ◌^◌, ◌∷◌, ◌≡◌}};
 
 use crate::fault::{LogFault, refused};
 use crate::log::Log;
 use crate::reading::Reading;
 use crate::spelled::is_header;
-use sim_base::Setup;
-use std::alloc::Global;
+use sim_base::{Global, Setup};
 
 /// The one log of the match that these bytes are, or the number of the first line, counted from 1, with which no log of
 /// the match goes on.

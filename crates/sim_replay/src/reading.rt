@@ -5,8 +5,7 @@ ghost use Rattle.sim_replay.specs.Logs.{ids_in as ids_in_command, is_by, log_in,
 
 use crate::log::{Digests, Log, Orders, Turns};
 use crate::spelled::{digest_in, order_in};
-use sim_base::{Command, Items, OutOfMemory, PlayerCommand, Setup};
-use std::alloc::Global;
+use sim_base::{Command, Global, Items, OutOfMemory, PlayerCommand, Setup};
 
 /// The turns that are at their end, turn 0 first, with their digests, and the commands of the next one so far.
 #[derive(Drop)]

@@ -7,9 +7,8 @@ ghost use Rattle.sim_replay.specs.Logs.{order_line, spelled, text_in as text_in_
 use crate::commands::order_of;
 use crate::lines::{push_digest_front, push_digest_line, push_header, push_order_front};
 use crate::words::behind;
-use sim_base::{OutOfMemory, PlayerCommand, Setup};
+use sim_base::{Global, OutOfMemory, PlayerCommand, Setup};
 use sim_report::push_turn_order;
-use std::alloc::Global;
 
 /// Whether a line is the one that names the match.
 pub fn is_header(alloc: Global, setup: &Setup, line: &[u8]) -> Result<bool, OutOfMemory>

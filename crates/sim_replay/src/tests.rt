@@ -2,8 +2,7 @@
 //! from `docs/REPLAYS.md` alone.
 
 use crate::{Log, LogFault, log_of, push_log};
-use sim_base::{Items, Land, Setup};
-use std::alloc::Global;
+use sim_base::{Global, Items, Land, Setup};
 use std::test::Fail;
 
 const WHOLE: &str = "simlog 1 30313233343536373839616263646566

@@ -1,8 +1,7 @@
 -- A state as text: a line of its clock, and a line of each row with the parts that the row has.
-use Rattle.sim_base.specs.declared.template.Template.{Template}
-use Rattle.sim_base.specs.declared.{place.Point.Point, setup.Setup.Setup, state.Aim.Aim, state.Motion.Motion, state.Motion.TheVariants.Going}
-use Rattle.sim_base.specs.{NumberText.text_of, Rows.template_of, declared.state.Motion.TheVariants.Still, declared.state.Row.Row, declared.state.State.State}
-use Rattle.std.specs.Prelude.{[], Bool, codes, decimal, flat_map, if◌then◌else◌, length, List, None, Option, option_map, Some, unwrap_or, ℕ, ℤ, ◌++◌, ◌<◌, ◌∷◌}
+use Rattle.sim_base.specs.declared.{place.Point.Point, setup.Setup.Setup, state.{Aim.Aim, Motion.{Motion, TheVariants.{Going, Still}}, Row.Row, State.State}}
+use Rattle.sim_base.specs.{declared.template.Template.Template, NumberText.text_of, Rows.template_of}
+use Rattle.std.specs.Prelude.{Bool, codes, decimal, flat_map, if◌then◌else◌, length, List, None, Option, option_map, Some, unwrap_or, ℕ, ℤ, [], ◌++◌, ◌<◌, ◌∷◌}
 
 -- the match has the row's template
 abbrev pub HasTemplate : Setup → Row → Type 0

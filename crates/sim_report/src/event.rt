@@ -1,8 +1,7 @@
 //! What a session prints of its steps, a line for each event.
 
+ghost use Rattle.sim_report.specs.{Appending.{Appends, AppendsInParts}, Lines.{client_text, event_line, notice_line, number_line, turn_line}};
 ghost use Rattle.std.specs.Prelude.{◌++◌};
-ghost use Rattle.sim_report.specs.Appending.{Appends, AppendsInParts};
-ghost use Rattle.sim_report.specs.Lines.{client_text, event_line, notice_line, number_line, turn_line};
 
 use crate::line::{append_number, append_turn, report_kind};
 use sim_base::{Event, OutOfMemory};

@@ -1,7 +1,6 @@
 //! The lines about logs of a match.
 
-ghost use Rattle.sim_report.specs.Appending.{Appends, AppendsInParts};
-ghost use Rattle.sim_report.specs.Lines.{agree_line, apart_line, apart_lines, logged_line, named_line};
+ghost use Rattle.sim_report.specs.{Appending.{Appends, AppendsInParts}, Lines.{agree_line, apart_line, apart_lines, logged_line, named_line}};
 
 use crate::line::{append_digest, append_number};
 use sim_base::OutOfMemory;

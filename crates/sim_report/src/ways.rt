@@ -1,8 +1,7 @@
 //! The ways of the rows of a state as text: a line for each row that has waypoints ahead.
 
+ghost use Rattle.sim_report.specs.{Appending.{Appends, AppendsInParts}, Show.{next_point, row_way, way_ahead as points_ahead, way_line, ways_text}};
 ghost use Rattle.std.specs.Prelude.{flat_map, ◌≡◌};
-ghost use Rattle.sim_report.specs.Appending.{Appends, AppendsInParts};
-ghost use Rattle.sim_report.specs.Show.{next_point, row_way, way_ahead as points_ahead, way_line, ways_text};
 
 use crate::down::append_number;
 use crate::show::write_point;

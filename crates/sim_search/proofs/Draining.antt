@@ -1,13 +1,12 @@
 -- What a lowered cost, a taken cell and an emptied bucket leave of a search by buckets, for every estimate that guides it.
+use Rattle.{sim_base.proofs.Lists.nothing_in, sim_grid.proofs.Beside.same_or_not}
+use Rattle.sim_search.proofs.Common.{ap, ap₂, AreCosts, AreCostsUpTo, arith, Begins, Bool, bucket_in, cases_Bool, cases_eq, cases_lt, Cell, cond, Contains}
 use Rattle.sim_search.proofs.Common.{Contains-append_left, Contains-push, Contains-push_cases, cost_in, count_by, Drains, Empties, entry_at, eq-or-lt_of_le}
 use Rattle.sim_search.proofs.Common.{Expands, false, Field, get_or, get_or-set_other, get_or-set_same, HasCost, HasStopped, inl, inr, IsComeTo, IsCost, IsEarly}
 use Rattle.sim_search.proofs.Common.{IsGuide, IsKept, IsLowered, IsSearch, IsStep, length, List, Lowers, None, not, Option, Progress, Ready, refl, Search, set}
-use Rattle.sim_search.proofs.Common.{[], ap, ap₂, AreCosts, AreCostsUpTo, arith, Begins, Bool, bucket_in, cases_Bool, cases_eq, cases_lt, Cell, cond, Contains}
 use Rattle.sim_search.proofs.Common.{set-get_or, Size, size_of, Some, stay, step_cost, step_to, subst, suc, sym, taken_in, takens, Takes, true, true≢false}
-use Rattle.sim_search.proofs.Common.{untaken, Waits, Walk, zero, ℕ, ⊎_elim, ◌%◌, ◌*◌, ◌++◌, ◌+◌, ◌-◌, ◌<◌, ◌∙◌, ◌∷◌, ◌≡◌, ◌≢◌, ◌≤◌, ◌⊎◌}
-use Rattle.sim_search.proofs.Moves.{walk-even}
-use Rattle.sim_search.proofs.Taking.{all-found, cost-least, goes-on, lowers, takes, walk-found}
-use Rattle.{sim_base.proofs.Lists.nothing_in, sim_grid.proofs.Beside.same_or_not, sim_search.proofs.Moves.direction-of, sim_search.proofs.Moves.step-of}
+use Rattle.sim_search.proofs.Common.{untaken, Waits, Walk, zero, ℕ, ⊎_elim, [], ◌%◌, ◌*◌, ◌++◌, ◌+◌, ◌-◌, ◌<◌, ◌∙◌, ◌∷◌, ◌≡◌, ◌≢◌, ◌≤◌, ◌⊎◌}
+use Rattle.sim_search.proofs.{Moves.{direction-of, step-of, walk-even}, Taking.{all-found, cost-least, goes-on, lowers, takes, walk-found}}
 
 ring-length : (s : Search) → length s.buckets.items ≡ 32
 ring-length s = omega (arith, s.ring, s.buckets.ok.0)

@@ -4,9 +4,8 @@ use Rattle.sim_search.proofs.Common.{abs_diff, Aim, ap, ap₂, AreCosts, arith, 
 use Rattle.sim_search.proofs.Common.{get_or-set_same, go, HasCost, inl, inr, is_free, is_some, is_straight, IsGuide, IsOnGround, IsStep, length}
 use Rattle.sim_search.proofs.Common.{length-replicate, List, max, None, Option, refl, replicate, set, Some, stay, subst, suc, sym, true, true≢false, Walk}
 use Rattle.sim_search.proofs.Common.{walk-on, zero, ℕ, ◌%◌, ◌&&◌, ◌*◌, ◌+◌, ◌<◌, ◌||◌, ◌∙◌, ◌≡◌, ◌≤◌, ◌⊎◌}
-use Rattle.sim_search.proofs.Moves.{direction-of, estimate-guides, even_step, free-of_walk, free-open, most_step, step_back}
-use Rattle.sim_search.specs.Rows.{alike, apart, AreDistances, AreLandmarks, between, half_of, number_of, row_with}
-use Rattle.std.proofs.lemmas.{List.length-set, Option.same_Some}
+use Rattle.sim_search.{proofs.Moves.{direction-of, estimate-guides, even_step, free-of_walk, free-open, most_step, step_back}, specs.Rows.{alike, apart}}
+use Rattle.{sim_search.specs.Rows.{AreDistances, AreLandmarks, between, half_of, number_of, row_with}, std.proofs.lemmas.{List.length-set, Option.same_Some}}
 
 turned-near : (a b k : ℕ) → 2 * abs_diff a b ≤ k → 2 * abs_diff b a ≤ k
 turned-near a b k h = omega (arith, h)

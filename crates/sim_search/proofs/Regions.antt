@@ -1,12 +1,11 @@
 -- Regions: cells are joined both ways, labels tell which are, and so which cells a walk reaches.
-use Rattle.sim_search.proofs.Common.{IsOnGround, IsOpenStep, IsReached, IsShore, IsStep, itself, LabelsTell, level, List, lt-ltb, ltb-true, neighbour}
+use Rattle.{sim_grid.proofs.Beside.same_or_not, sim_laws.proofs.Neighbours.past_eight}
 use Rattle.sim_search.proofs.Common.{alone, and_parts, ap, AreLabels, arith, back, beside, beside_open, Bool, cases_Bool, Cell, cell_at, cell_at-is}
 use Rattle.sim_search.proofs.Common.{cell_at-some, Contains, false, Field, forward, go, HasShoreLabel, inl, inr, ints, is_free, is_straight, IsJoined, IsLabel}
+use Rattle.sim_search.proofs.Common.{IsOnGround, IsOpenStep, IsReached, IsShore, IsStep, itself, LabelsTell, level, List, lt-ltb, ltb-true, neighbour}
 use Rattle.sim_search.proofs.Common.{neighbour-back, neighbour-on, NoLabelIsClosed, None, on, Option, place_of, pos, refl, same_by_parts, same_cell}
 use Rattle.sim_search.proofs.Common.{same_cell-true, same_from_place, Size, Some, stay, step_cost, subst, suc, sym, true, true≢false, Walk, walk-on, zero, ℕ, ℤ}
-use Rattle.sim_search.proofs.Common.{◌<◌, ◌||◌, ◌∙◌, ◌≡◌, ◌≢◌, ◌≤◌, ◌⊎◌}
-use Rattle.sim_search.specs.Floods.{AreJoined, IsBeside, IsMore, IsNotFirst, IsRim}
-use Rattle.{sim_grid.proofs.Beside.same_or_not, sim_laws.proofs.Neighbours.past_eight, sim_search.proofs.Common.◌+ℤ◌, sim_search.proofs.Common.◌+◌}
+use Rattle.sim_search.{proofs.Common.{◌+ℤ◌, ◌+◌, ◌<◌, ◌||◌, ◌∙◌, ◌≡◌, ◌≢◌, ◌≤◌, ◌⊎◌}, specs.Floods.{AreJoined, IsBeside, IsMore, IsNotFirst, IsRim}}
 
 pub place-same : (size : Size) (c e : Cell) → IsOnGround size c → IsOnGround size e → place_of size c ≡ place_of size e → c ≡ e
 place-same size c e f g h = let parts = same_from_place c.z c.x e.z e.x size.width f.east g.east h in same_by_parts c e parts.1 parts.0

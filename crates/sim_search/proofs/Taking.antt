@@ -1,9 +1,8 @@
 -- Why a search that takes cells by ascending cost and estimate finds the least costs: for any steps, and any estimate that falls by at most
 -- what a step costs.
-use Rattle.sim_search.proofs.Common.{true≢false, Walk, ⊎_elim, ◌∙◌}
-use Rattle.sim_search.proofs.Common.{inr, IsEstimate, IsLeastCost, IsSearch, LoweringKeeps, stay, subst, sym, TakenInOrder, TakenIsLeast, TakingKeeps}
-use Rattle.sim_search.proofs.Common.{◌≡◌, ℕ, ◌+◌, ◌<◌, ◌≤◌, Bool, true, false, ◌≢◌, ◌⊎◌, Some, Option, ap, arith, cases_Bool, eq-or-lt_of_le, go, HasCost, inl}
-use Rattle.{sim_grid.proofs.Beside.same_or_not, std.proofs.lemmas.Option.same_Some}
+use Rattle.{sim_grid.proofs.Beside.same_or_not, sim_search.proofs.Common.{ap, arith, Bool, cases_Bool, eq-or-lt_of_le, false, go, HasCost, inl, inr}}
+use Rattle.sim_search.proofs.Common.{IsEstimate, IsLeastCost, IsSearch, LoweringKeeps, Option, Some, stay, subst, sym, TakenInOrder, TakenIsLeast, TakingKeeps}
+use Rattle.{sim_search.proofs.Common.{true, true≢false, Walk, ℕ, ⊎_elim, ◌+◌, ◌<◌, ◌∙◌, ◌≡◌, ◌≢◌, ◌≤◌, ◌⊎◌}, std.proofs.lemmas.Option.same_Some}
 
 module _ {X : Type 0} {Step : X → X → ℕ → Type 0} {start : X} {estimate : X → ℕ} {cost : X → Option ℕ} {taken : X → Bool} {now : ℕ}
     (same : (c e : X) → (c ≡ e) ⊎ (c ≢ e)) (good : IsEstimate Step estimate) (s : IsSearch Step start estimate cost taken now) where

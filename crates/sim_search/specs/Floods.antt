@@ -1,8 +1,7 @@
 -- A flood that labels one region after another.
-use Rattle.sim_search.specs.{Common.Cell, declared.labels.Flood.Flood, declared.labels.Labels.Labels, declared.region.Window.Window, declared.table.Table.Table}
-use Rattle.sim_search.specs.{Common.Field, Common.IsOnGround, Common.IsStep, Common.Size, Common.Walk, Common.neighbour, Common.place_of, Queues.entry_at}
-use Rattle.std.specs.Prelude.{[], Bool, Contains, count_by, false, length, List, None, Option, slice_set, Some, true, ℕ, ◌*◌, ◌++◌, ◌+◌, ◌<◌, ◌∷◌, ◌≡◌, ◌≢◌}
-use Rattle.std.specs.{Option.is_none, Option.is_some, Prelude.◌≤◌, Prelude.◌⊎◌}
+use Rattle.sim_search.specs.{Common.{Cell, Field, IsOnGround, IsStep, neighbour, place_of, Size, Walk}, declared.labels.{Flood.Flood, Labels.Labels}}
+use Rattle.{sim_search.specs.{declared.{region.Window.Window, table.Table.Table}, Queues.entry_at}, std.specs.{Option.{is_none, is_some}, Prelude.Bool}}
+use Rattle.std.specs.Prelude.{Contains, count_by, false, length, List, None, Option, slice_set, Some, true, ℕ, [], ◌*◌, ◌++◌, ◌+◌, ◌<◌, ◌∷◌, ◌≡◌, ◌≢◌, ◌≤◌, ◌⊎◌}
 
 -- Regions: the cells that steps to the east, north, west and south over open cells join.
 

@@ -5,9 +5,8 @@ ghost use Rattle.std.specs.Prelude.{◌≡◌, ◌*◌, ◌≤◌, vec_len};
 
 use crate::costs::Costs;
 use crate::row::number;
-use sim_base::{Cell, OutOfMemory};
+use sim_base::{Cell, Global, OutOfMemory};
 use sim_grid::Spot;
-use std::alloc::Global;
 
 /// A goal, and the numbers of the cells of a ground, by z, then x: 0 where no walk leads.
 #[derive(Drop)]
@@ -22,9 +21,8 @@ pub struct Distances {
 }
 
 impl Distances {
+    ghost use Rattle.{sim_grid.specs.Grids.IsSpot, sim_search.specs.{Common.Cell, Queues.{cost_in, size_of}, Rows.{number_in, number_of, size_about}}};
     ghost use Rattle.std.specs.Prelude.{IfOk, ◌≡◌};
-    ghost use Rattle.sim_grid.specs.Grids.{IsSpot};
-    ghost use Rattle.sim_search.specs.{Common.Cell, Queues.cost_in, Queues.size_of, Rows.number_in, Rows.number_of, Rows.size_about};
 
     /// Those that the costs of walks from the goal tell.
     pub fn of(alloc: Global, costs: &Costs, goal: Cell) -> Result<Distances, OutOfMemory>

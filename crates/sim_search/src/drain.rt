@@ -1,18 +1,16 @@
 //! The search, bucket by bucket: cells are taken by ascending keys, and each one with its least cost.
 
-ghost use Rattle.std.specs.Prelude.{[], false, IfOk, IsTrue, OnOk, Some, true, ℕ, ◌+◌, ◌<◌, ◌^◌, ◌↔◌, ◌≡◌, ◌≤◌};
-ghost use Rattle.sim_grid.specs.Grids.{is_open_at};
-ghost use Rattle.sim_search.specs.Queues.{Drains, Expands, IsComeTo, IsSearched, Progress, Ready, cost_in, size_of};
-ghost use Rattle.sim_search.specs.{Common.Cell, Common.Field, Common.IsOnGround, Common.field_of_grid, Estimates.IsGuide, Queues.AreCosts, Queues.Begins};
+ghost use Rattle.{sim_grid.specs.Grids.is_open_at, sim_search.specs.{Common.{Cell, Field, field_of_grid, IsOnGround}, Estimates.IsGuide}};
+ghost use Rattle.sim_search.specs.Queues.{AreCosts, Begins, cost_in, Drains, Expands, IsComeTo, IsSearched, Progress, Ready, size_of};
+ghost use Rattle.std.specs.Prelude.{false, IfOk, IsTrue, OnOk, Some, true, ℕ, [], ◌+◌, ◌<◌, ◌^◌, ◌↔◌, ◌≡◌, ◌≤◌};
 
 use crate::aim::Nowhere;
 use crate::origin::Origin;
 use crate::queue::{begun, emptied, is_empty, lower, swap_bucket, take, waiting};
 use crate::steps::moves_by_trial;
 use crate::{Costs, Guide, Search, step_beside, step_cost};
-use sim_base::{Cell, Items, OutOfMemory};
+use sim_base::{Cell, Global, Items, OutOfMemory};
 use sim_grid::{Grid, Spot};
-use std::alloc::Global;
 
 // Reckons with the steps from a cell of this cost. Whether the start is open is looked at once for a bucket.
 fn expand<A: Guide>(

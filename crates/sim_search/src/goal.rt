@@ -1,15 +1,13 @@
 //! How far all cells of a ground are from one goal.
 
+ghost use Rattle.{sim_grid.specs.Grids.is_open_at, sim_search.specs.{Common.{field_of_grid, IsOnGround}, Rows.{AreDistances, number_in, size_about}}};
 ghost use Rattle.std.specs.Prelude.{IfOk, true, ◌≡◌};
-ghost use Rattle.sim_grid.specs.Grids.{is_open_at};
-ghost use Rattle.sim_search.specs.{Common.IsOnGround, Common.field_of_grid, Rows.AreDistances, Rows.number_in, Rows.size_about};
 
 use crate::distances::Distances;
 use crate::drain::search_all;
 use crate::search::Search;
-use sim_base::{Cell, OutOfMemory};
+use sim_base::{Cell, Global, OutOfMemory};
 use sim_grid::Grid;
-use std::alloc::Global;
 
 /// How far the cells of a grid are from a goal, in the rooms of an earlier search, where they fit. They can be used again.
 pub fn distances_to(

@@ -6,9 +6,8 @@ ghost use Rattle.sim_search.specs.Floods.{AreForgotten, AreGiven, AreLabels, ent
 ghost use Rattle.sim_search.specs.{Common.IsOnGround, Common.field_of_grid, Common.place_of, Floods.Spreads, Floods.size_in};
 
 use crate::table::{Table, no_numbers};
-use sim_base::{Cell, OutOfMemory};
+use sim_base::{Cell, Global, OutOfMemory};
 use sim_grid::Grid;
-use std::alloc::Global;
 
 /// The label of each open cell of a grid: the least place, `z * width + x`, of the cells that are joined to it.
 #[derive(Drop)]

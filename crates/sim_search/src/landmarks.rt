@@ -5,8 +5,7 @@ ghost use Rattle.std.specs.Prelude.{◌≡◌, ◌*◌, ◌≤◌, vec_len};
 
 use crate::costs::Costs;
 use crate::row::{Row, alike, row_with};
-use sim_base::{Cell, OutOfMemory};
-use std::alloc::Global;
+use sim_base::{Cell, Global, OutOfMemory};
 
 /// The rows of the cells of a ground, by z, then x: None where the cell is closed, or where a landmark does not reach it.
 #[derive(Drop)]

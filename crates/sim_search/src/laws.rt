@@ -1,8 +1,7 @@
 //! Laws of labels, and of a search that takes cells by their cost and an estimate. These hold for every estimate that falls
 //! along a step by at most what the step costs, not only for the one that is used here.
 
-ghost use Rattle.sim_search.specs.Floods.{LabelsTell, NoLabelIsClosed};
-ghost use Rattle.sim_search.specs.Queues.{LoweringKeeps, TakenInOrder, TakenIsLeast, TakingKeeps};
+ghost use Rattle.sim_search.specs.{Floods.{LabelsTell, NoLabelIsClosed}, Queues.{LoweringKeeps, TakenInOrder, TakenIsLeast, TakingKeeps}};
 
 /// A cell that was taken has its least cost.
 pub fn taken_is_least()

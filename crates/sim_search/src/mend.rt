@@ -7,9 +7,8 @@ ghost use Rattle.sim_search.specs.{Common.field_of_grid, Common.place_of, Floods
 
 use crate::labels::Labels;
 use crate::region::{are_joined, rim_of};
-use sim_base::Cell;
+use sim_base::{Cell, Global};
 use sim_grid::Grid;
-use std::alloc::Global;
 
 // The place of a cell among those of the ground.
 fn place_in(grid: &Grid, cell: Cell) -> u32

@@ -1,16 +1,14 @@
 //! The cells that wait, in a ring of buckets, each of which holds those of one key: the sum of cost and estimate.
 
-ghost use Rattle.std.specs.Prelude.{[], false, IfOk, IsTrue, None, OnOk, replicate, slice_index_or, Some, true, vec_len, ℕ, ◌%◌, ◌*◌, ◌+◌, ◌-◌, ◌<◌, ◌^◌, ◌↔◌};
-ghost use Rattle.std.specs.Prelude.{◌≡◌};
-ghost use Rattle.sim_search.specs.Queues.{Begins, bucket_in, cost_in, Empties, ground_of, is_lower_than, IsBlank, IsLowered, Lowers, place_in, size_of};
-ghost use Rattle.{sim_grid.specs.Grids.IsSpot, sim_search.specs.Common.IsOnGround, sim_search.specs.Queues.Takes, sim_search.specs.Queues.taken_in};
+ghost use Rattle.{sim_grid.specs.Grids.IsSpot, sim_search.specs.{Common.IsOnGround, Queues.{Begins, bucket_in, cost_in, Empties, ground_of, is_lower_than}}};
+ghost use Rattle.{sim_search.specs.Queues.{IsBlank, IsLowered, Lowers, place_in, size_of, taken_in, Takes}, std.specs.Prelude.false};
+ghost use Rattle.std.specs.Prelude.{IfOk, IsTrue, None, OnOk, replicate, slice_index_or, Some, true, vec_len, ℕ, [], ◌%◌, ◌*◌, ◌+◌, ◌-◌, ◌<◌, ◌^◌, ◌↔◌, ◌≡◌};
 
 use crate::entry::Entry;
 use crate::origin::Origin;
 use crate::{Costs, Guide, Search};
-use sim_base::{Cell, Items, OutOfMemory};
+use sim_base::{Cell, Global, Items, OutOfMemory};
 use sim_grid::Spot;
-use std::alloc::Global;
 use std::mem;
 
 // How many buckets there are. The keys of the cells that wait differ by less.

@@ -1,13 +1,11 @@
 //! Cells that steps to the east, north, west and south over open cells join, as far as a look nearby tells. What it finds
 //! is joined; what it doesn't find may be joined all the same.
 
+ghost use Rattle.sim_search.specs.{Common.{field_of_grid, IsOnGround}, Floods.{AreAdded, AreJoined, AreOpen, IsInside, IsJoined, IsRim}};
 ghost use Rattle.std.specs.Prelude.{Contains, IfOk, IsTrue, OnOk, true, ◌↔◌, ◌≡◌};
-ghost use Rattle.sim_search.specs.Common.{field_of_grid, IsOnGround};
-ghost use Rattle.sim_search.specs.Floods.{AreAdded, AreJoined, AreOpen, IsInside, IsJoined, IsRim};
 
-use sim_base::{Cell, OutOfMemory};
+use sim_base::{Cell, Global, OutOfMemory};
 use sim_grid::Grid;
-use std::alloc::Global;
 
 // So many cells are gone through at most, and so far from the given ones.
 const MOST: usize = 512;

@@ -1,9 +1,8 @@
 //! The steps that are allowed over a grid.
 
-ghost use Rattle.std.specs.{Option.is_some, Prelude.IfSome, Prelude.None, Prelude.Some, Prelude.◌<◌, Prelude.◌≡◌};
-ghost use Rattle.sim_grid.specs.{Grids.IsSpot, Grids.LooksFrom, declared.spot.Spot.Spot};
-ghost use Rattle.sim_search.specs.Common.{beside_open, field_of_grid, is_free as is_free_in, IsOnGround, step_cost as cost_of_step};
-ghost use Rattle.sim_search.specs.Moves.{AreMoves, step_to};
+ghost use Rattle.{sim_grid.specs.{declared.spot.Spot.Spot, Grids.{IsSpot, LooksFrom}}, sim_search.specs.Common.beside_open};
+ghost use Rattle.sim_search.specs.{Common.{field_of_grid, is_free as is_free_in, IsOnGround, step_cost as cost_of_step}, Moves.{AreMoves, step_to}};
+ghost use Rattle.std.specs.{Option.is_some, Prelude.{IfSome, None, Some, ◌<◌, ◌≡◌}};
 
 use sim_base::Cell;
 use sim_grid::{Grid, Spot};

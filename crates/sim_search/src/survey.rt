@@ -1,17 +1,15 @@
 //! Where landmarks are set: each far from those before.
 
-ghost use Rattle.std.specs.Prelude.{◌≡◌, true, IfOk, IfSome};
-ghost use Rattle.sim_grid.specs.Grids.{is_open_at};
-ghost use Rattle.sim_search.specs.{Common.field_of_grid, Common.IsOnGround, Rows.AreLandmarks, Rows.row_in};
+ghost use Rattle.{sim_grid.specs.Grids.is_open_at, sim_search.specs.{Common.{field_of_grid, IsOnGround}, Rows.{AreLandmarks, row_in}}};
+ghost use Rattle.std.specs.Prelude.{IfOk, IfSome, true, ◌≡◌};
 
 use crate::costs::Costs;
 use crate::drain::least_costs;
 use crate::landmarks::Landmarks;
 use crate::row::LANDMARKS;
 use crate::table::{Table, no_numbers};
-use sim_base::{Cell, OutOfMemory};
+use sim_base::{Cell, Global, OutOfMemory};
 use sim_grid::Grid;
-use std::alloc::Global;
 
 // Notes how far a cell is from the nearest landmark, and answers that.
 fn note(nearest: &mut Table, cell: Cell, cost: u32) -> u32 {

@@ -2,8 +2,7 @@
 
 ghost use Rattle.std.specs.Prelude.{◌≡◌, ◌*◌, ◌<◌, ◌≤◌, replicate, IfOk, None, vec_len};
 
-use sim_base::{Cell, OutOfMemory};
-use std::alloc::Global;
+use sim_base::{Cell, Global, OutOfMemory};
 
 /// The numbers of the cells of a ground, by z, then x: None where a cell has none.
 #[derive(Drop)]

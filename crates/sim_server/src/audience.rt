@@ -7,10 +7,9 @@ ghost use Rattle.sim_server.specs.{Saying.Pushes, Saying.Says, Standing.cut_said
 
 use crate::posts::{Post, Posts, copied};
 use crate::seats::{is_inside, least_in_of, status_of, waits};
-use sim_base::{Items, OutOfMemory};
+use sim_base::{Global, Items, OutOfMemory};
 use sim_plain::Status;
 use sim_wire::Down;
-use std::alloc::Global;
 
 /// The clients up to this number, by what each of them is. What is said to them takes memory of the allocator.
 #[derive(Clone, Copy)]

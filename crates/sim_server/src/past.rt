@@ -5,9 +5,8 @@ ghost use Rattle.sim_server.specs.{Common.Release, Common.kept_above, Common.pos
 
 use crate::kept::{Orders, kept_of};
 use crate::posts::{Post, Posts, one, push_orders};
-use sim_base::OutOfMemory;
+use sim_base::{Global, OutOfMemory};
 use sim_wire::Down;
-use std::alloc::Global;
 
 /// The commands that were kept, by turn, how many turns the match has, and how many of them are released.
 #[derive(Clone, Copy)]

@@ -3,10 +3,9 @@
 ghost use Rattle.std.specs.Prelude.{[], IfOk, map, OnOk, ◌++◌, ◌∷◌, ◌≡◌};
 ghost use Rattle.sim_server.specs.{Common.Command, Common.posted_to, Standing.asked_one};
 
-use sim_base::{Items, OutOfMemory, PlayerCommand};
+use sim_base::{Global, Items, OutOfMemory, PlayerCommand};
 use sim_plain::PostOf;
 use sim_wire::{Bytes, Down};
-use std::alloc::Global;
 
 /// A message of the server, and the client who gets it.
 pub type Post = PostOf<Bytes>;

@@ -3,11 +3,10 @@
 //! A call that is refused memory leaves the server as it was: what it says is made before anything is changed, and lists
 //! by turn are grown by empty turns first, which say nothing.
 
+ghost use Rattle.sim_server.specs.{Common.{Arrival, Cut, Heard, is_out, IsUpFrame, raw, takes_state, up_carries, UpOf}, Standing.{Answers, is_dropped}};
+ghost use Rattle.sim_server.specs.Standing.{IsClient, IsLater, IsNoted, IsSilent, Makes, ReleasesNothing, SaysNoted, SaysTheSame, server_of, StandsFor};
+ghost use Rattle.std.specs.Prelude.{false, IfOk, IsOk, List, true, ℕ, [], ◌<◌, ◌≡◌, ◌≤◌};
 ghost use Rattle.sim_plain.specs.declared.message.UpOf.TheVariants as up;
-ghost use Rattle.std.specs.Prelude.{[], false, IfOk, IsOk, List, true, ℕ, ◌<◌, ◌≡◌, ◌≤◌};
-ghost use Rattle.sim_server.specs.Common.{Arrival, Cut, Heard, is_out, IsUpFrame, raw, takes_state, up_carries, UpOf};
-ghost use Rattle.sim_server.specs.Standing.{Answers, is_dropped, IsClient, IsLater, IsNoted, IsSilent, Makes, ReleasesNothing, SaysNoted, SaysTheSame};
-ghost use Rattle.sim_server.specs.Standing.{server_of, StandsFor};
 
 use crate::audience::Audience;
 use crate::faults::{
@@ -18,10 +17,9 @@ use crate::past::Past;
 use crate::posts::{Posts, one, tell_ask};
 use crate::references::{is_other, note, reference_of};
 use crate::seats::{first_seats, is_outside, least_in_of, raised_of, reseat, seat_of, status_of};
-use sim_base::{Command, Items, OutOfMemory, PlayerCommand};
+use sim_base::{Command, Global, Items, OutOfMemory, PlayerCommand};
 use sim_plain::{Rules, Status};
 use sim_wire::{Bytes, Down, Up, WireFault, unframe_up};
-use std::alloc::Global;
 use std::marker::Model;
 
 /// A turn server. It keeps what each client is, the released turns, the commands by turn and the references by turn.

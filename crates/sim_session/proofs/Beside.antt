@@ -3,17 +3,16 @@ use Rattle.sim_base.specs.declared.step.Event.TheVariants as event
 use Rattle.sim_base.specs.declared.step.Step.TheVariants as step
 use Rattle.sim_plain.specs.declared.message.UpOf.TheVariants as up
 use Rattle.sim_plain_session.specs.Clients as plain
-use Rattle.sim_session.proofs.Common.{IfOk, if◌then◌else◌, inl, inr, is_off, IsBuiltOnceAtMost, IsSmallUp, IsUpFrame, join_shown, Joining, joining_follows}
-use Rattle.sim_session.proofs.Common.{None, Off, Ok, On, OnOk, Option, order_shown, ordered, ordering_follows, orders, OutOfMemory, Phase, pipe_in}
-use Rattle.sim_session.proofs.Common.{Systems, systems_on, Tells, told, true, Up, ℕ, ℤ, ◌++◌, ◌∙◌, ◌∷◌, ◌≡◌, ◌⊎◌}
-use Rattle.sim_session.proofs.Common.{[], Act, Acted, acts, ActsBy, All, All-cons, All-nil, Answers, ap, append-nil, AreBuilt, AreBuiltIf, AreFrames, AreKept}
+use Rattle.{sim_board.proofs.Counting.not_built, sim_client.proofs.Small.{orders_small, plays_small}}
+use Rattle.sim_session.proofs.Common.{Act, Acted, acts, ActsBy, All, All-cons, All-nil, Answers, ap, append-nil, AreBuilt, AreBuiltIf, AreFrames, AreKept}
 use Rattle.sim_session.proofs.Common.{arith, bending_follows, bends, bent, Bool, carry_up, cases_eq, Client, client_of, Command, cond-false, cond-true, Conveys}
 use Rattle.sim_session.proofs.Common.{cut, Did, Done, eq-eqb, Err, Event, events_by, false, false≢true, Follows, has_happened, has_load, HasFewIds, Held, Idle}
+use Rattle.sim_session.proofs.Common.{IfOk, if◌then◌else◌, inl, inr, is_off, IsBuiltOnceAtMost, IsSmallUp, IsUpFrame, join_shown, Joining, joining_follows}
 use Rattle.sim_session.proofs.Common.{joins, leave_events, leaves, Life, life_after, List, Lives, LoadsBy, Makes, map, may_bend, may_order, Meaning, ne_eqb}
+use Rattle.sim_session.proofs.Common.{None, Off, Ok, On, OnOk, Option, order_shown, ordered, ordering_follows, orders, OutOfMemory, Phase, pipe_in}
 use Rattle.sim_session.proofs.Common.{played_events, playing_follows, plays, put, put_same, refl, Result, rise_events, rises, row_of, Said, said_by}
 use Rattle.sim_session.proofs.Common.{said_events, says_of, Session, Setup, shows, shows_after, Some, spelled, StandBeside, Step, stepped_by, subst, sym}
-use Rattle.sim_session.proofs.Stepping.{rises_stay}
-use Rattle.{sim_board.proofs.Counting.not_built, sim_client.proofs.Small.orders_small, sim_client.proofs.Small.plays_small}
+use Rattle.sim_session.proofs.{Common.{Systems, systems_on, Tells, told, true, Up, ℕ, ℤ, [], ◌++◌, ◌∙◌, ◌∷◌, ◌≡◌, ◌⊎◌}, Stepping.rises_stay}
 
 -- ---- answers
 

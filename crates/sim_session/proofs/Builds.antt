@@ -1,15 +1,13 @@
 -- How often systems were built, over one step and then another.
-use Rattle.sim_session.proofs.TextCommon.{[], All, AllBuiltAtMost, ap, AreBuiltIf, arith, begun_by, Bool, builds_of, ChangeAt, client_of, Event, events}
-use Rattle.sim_session.proofs.TextCommon.{events_after, false, get_or, has_load, if◌then◌else◌, le-leb, length, length-map, List, loads_in, map, Meaning}
-use Rattle.sim_session.proofs.TextCommon.{nat_le, nowhere, opened, refl, session, Setup, start_events, StartsOnly, Step, StepList, subst, sym, Systems}
-use Rattle.sim_session.proofs.TextCommon.{systems_on, take, true, ℕ, ◌++◌, ◌+◌, ◌-◌, ◌<◌, ◌∙◌, ◌∷◌, ◌≡◌, ◌≤◌}
-use Rattle.sim_session.proofs.{Coming.all_back, Coming.same_count, Loads.loads_are_own, MoreSteps.loads_behind, MoreSteps.loads_within, TextCommon.systems_by}
-use Rattle.sim_session.specs.{Going.ComeBackBy, Going.IsSessionBy, Going.KeepsBy, Going.MayBeginBy, Going.MayFinishBy, Going.rigs_by, Laws.AreBuiltAtMost}
-use Rattle.sim_system.specs.Meanings.{AreBuiltOnceAtMost, HaveKinds, HaveSameRebuilds, IsBuiltOnceAtMost, all_cleared}
-use Rattle.std.proofs.lemmas.List.Elements.{All-append, All-cons, All-drop, All-nil, All-set}
-use Rattle.std.proofs.lemmas.List.{drop-map, get_or-map, get_or-set_other, get_or-set_same, map-set, take-append-drop, take_more_set}
-use Rattle.std.proofs.{Common.drop, Common.⊎_elim, Math.ListN.get_or-append, Math.ListN.set, lemmas.Bool.cases_eq, lemmas.Bool.cases_lt}
-use Rattle.{sim_client.specs.StageWords.AreCleared, sim_session.specs.Laws.IsBuiltAtMost, sim_session.specs.declared.session.Session.Session}
+use Rattle.{sim_client.specs.StageWords.AreCleared, sim_session.proofs.{Coming.{all_back, same_count}, Loads.loads_are_own}}
+use Rattle.sim_session.proofs.{MoreSteps.{loads_behind, loads_within}, TextCommon.{All, AllBuiltAtMost, ap, AreBuiltIf, arith, begun_by, Bool, builds_of}}
+use Rattle.sim_session.proofs.TextCommon.{ChangeAt, client_of, Event, events, events_after, false, get_or, has_load, if◌then◌else◌, le-leb, length, length-map}
+use Rattle.sim_session.proofs.TextCommon.{List, loads_in, map, Meaning, nat_le, nowhere, opened, refl, session, Setup, start_events, StartsOnly, Step, StepList}
+use Rattle.sim_session.proofs.TextCommon.{subst, sym, Systems, systems_by, systems_on, take, true, ℕ, [], ◌++◌, ◌+◌, ◌-◌, ◌<◌, ◌∙◌, ◌∷◌, ◌≡◌, ◌≤◌}
+use Rattle.sim_session.specs.{declared.session.Session.Session, Going.{ComeBackBy, IsSessionBy, KeepsBy, MayBeginBy, MayFinishBy, rigs_by}, Laws.AreBuiltAtMost}
+use Rattle.{sim_session.specs.Laws.IsBuiltAtMost, sim_system.specs.Meanings.{all_cleared, AreBuiltOnceAtMost, HaveKinds, HaveSameRebuilds, IsBuiltOnceAtMost}}
+use Rattle.std.proofs.{Common.{drop, ⊎_elim}, lemmas.{Bool.{cases_eq, cases_lt}, List.{drop-map, Elements.{All-append, All-cons, All-drop, All-nil, All-set}}}}
+use Rattle.std.proofs.{lemmas.List.{get_or-map, get_or-set_other, get_or-set_same, map-set, take-append-drop, take_more_set}, Math.ListN.{get_or-append, set}}
 use Rattle.{sim_system.specs.RigWords.systems_by as rig_by, sim_system.specs.declared.rig.Rig.Rig, std.specs.Prelude.Vec, std.specs.Prelude.vec_capacity}
 
 one_so : (j k most : ℕ) (l m n : Meaning) → j + k ≤ most → IsBuiltAtMost j l m → IsBuiltAtMost k m n → IsBuiltAtMost most l n

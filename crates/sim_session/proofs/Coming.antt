@@ -1,10 +1,9 @@
 -- What the systems of clients come to.
 use Rattle.sim_plain_session.specs.Clients as plain
-use Rattle.sim_session.proofs.TextCommon.{All, ap, arith, get_or, Joining, length, length-map, Life, life_of, List, Lives, map, nowhere, Off, On, Seen, Session}
-use Rattle.sim_session.proofs.TextCommon.{Setup, StandsFor, State, subst, sym, Systems, ℕ, ◌++◌, ◌-◌, ◌∙◌, ◌≡◌}
-use Rattle.std.proofs.lemmas.List.{drop-map, length-append}
-use Rattle.{sim_client.specs.StageWords.AreOf, sim_session.specs.Going.AreOfClients, sim_session.specs.Laws.AllStand, sim_session.specs.Laws.StandFor}
-use Rattle.{sim_system.specs.Meanings.AreFed, std.proofs.Common.drop, std.proofs.lemmas.List.Elements.All-append, std.proofs.lemmas.List.Elements.All-drop}
+use Rattle.{sim_client.specs.StageWords.AreOf, sim_session.proofs.TextCommon.{All, ap, arith, get_or, Joining, length, length-map, Life, life_of, List, Lives}}
+use Rattle.sim_session.proofs.TextCommon.{map, nowhere, Off, On, Seen, Session, Setup, StandsFor, State, subst, sym, Systems, ℕ, ◌++◌, ◌-◌, ◌∙◌, ◌≡◌}
+use Rattle.{sim_session.specs.{Going.AreOfClients, Laws.{AllStand, StandFor}}, sim_system.specs.Meanings.AreFed}
+use Rattle.std.proofs.{Common.drop, lemmas.List.{drop-map, Elements.{All-append, All-drop}, length-append}}
 
 -- systems of a client that stands for one of a session stand for that one
 one_stands : (setup : Setup) (life : Life) (phase : plain.Phase) (s : Systems) → Lives setup life phase → AreOf setup life s → StandFor setup phase s

@@ -1,18 +1,17 @@
 -- What a client of a session hears loads as the state that was meant, and what it does then is what the definition says, over
 -- plain values.
-use Rattle.sim_session.proofs.Beside.{acts_beside, done_by, kept_built, said_small}
-use Rattle.sim_session.proofs.Common.{Act, Acted, acts, after, All-cons, All-nil, Answers, ap, AreBuiltIf, AreBuiltOnceAtMost, AreKept, carry_down, carry_up}
-use Rattle.sim_session.proofs.Common.{Conveys, Did, Done, Down, Event, fall_events, Falls, falls, Follows, has_happened, has_load, HasValidStates, heard_events}
-use Rattle.sim_session.proofs.Common.{Lives, LoadsAs, LoadsFrom, Makes, may_load, none-some, Off, On, Past, Phase, put, refusal_in, said_by, says_of, Session}
-use Rattle.sim_session.proofs.Common.{Setup, shows, shows_after, spelled, spelling, StandBeside, State, subst, sym, Systems, Told, ◌∙◌}
-use Rattle.sim_session.proofs.Common.{hearing_follows, hearing_shown, hears, Held, Idle, inl, is_client, is_state, IsSetup, IsSmallUp, IsValid, Joining, Life}
-use Rattle.sim_session.proofs.Common.{◌≡◌, ℕ, Bool, true, false, ◌&&◌, List, [], ◌∷◌, ◌++◌, map, if◌then◌else◌, nat_lt, ◌==◌, Some, None, Ok, All, Option, refl}
+use Rattle.{sim_client.proofs.Spelled.states_are_short, sim_session.proofs.Beside.{acts_beside, done_by, kept_built, said_small}}
+use Rattle.sim_session.proofs.Common.{Act, Acted, acts, after, All, All-cons, All-nil, Answers, ap, AreBuiltIf, AreBuiltOnceAtMost, AreKept, Bool, carry_down}
+use Rattle.sim_session.proofs.Common.{carry_up, Conveys, Did, Done, Down, Event, fall_events, Falls, falls, false, Follows, has_happened, has_load}
+use Rattle.sim_session.proofs.Common.{HasValidStates, heard_events, hearing_follows, hearing_shown, hears, Held, Idle, if◌then◌else◌, inl, is_client, is_state}
+use Rattle.sim_session.proofs.Common.{IsSetup, IsSmallUp, IsValid, Joining, Life, List, Lives, LoadsAs, LoadsFrom, Makes, map, may_load, nat_lt, None}
+use Rattle.sim_session.proofs.Common.{none-some, Off, Ok, On, Option, Past, Phase, put, refl, refusal_in, said_by, says_of, Session, Setup, shows, shows_after}
+use Rattle.sim_session.proofs.Common.{Some, spelled, spelling, StandBeside, State, subst, sym, Systems, Told, true, ℕ, [], ◌&&◌, ◌++◌, ◌==◌, ◌∙◌, ◌∷◌, ◌≡◌}
 use Rattle.sim_base.specs.declared.step.Event.TheVariants as event
 use Rattle.sim_base.specs.declared.step.Step.TheVariants as step
 use Rattle.sim_plain.specs.declared.message.DownOf.TheVariants as down
 use Rattle.sim_plain.specs.declared.message.UpOf.TheVariants as up
 use Rattle.sim_plain_session.specs.Clients as plain
-use Rattle.sim_client.proofs.Spelled.{states_are_short}
 
 -- the state that a message means
 abbrev loaded_of : Setup → Down → Option State

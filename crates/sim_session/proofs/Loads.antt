@@ -2,13 +2,12 @@
 use Rattle.sim_base.specs.declared.step.Event.TheVariants as event
 use Rattle.sim_base.specs.declared.step.Step.TheVariants as step
 use Rattle.sim_plain.specs.declared.message.DownOf.TheVariants as down
+use Rattle.{sim_base.specs.{Rows.row_of, Turn.may_bend}, sim_plain.specs.{Messages.Heard, Server.noticed}}
 use Rattle.sim_plain_session.specs.Clients.{Acted, bends, bent_seat, Down, hears, idle, Joining, joins, may_order, may_play, may_tell_done, Off, On, ordered}
-use Rattle.sim_plain_session.specs.Clients.{Up, orders, played, plays, shows_bend, state_of, told_alone, told_with_done}
-use Rattle.sim_plain_session.specs.{Pasts.rules_of, Sessions.events_by, Sessions.fall_events, Sessions.leave_events, Sessions.rise_events}
-use Rattle.sim_session.proofs.TextCommon.{Phase, Session, Setup, Step, loads_in, map, refl, subst, sym, true, turns_in, ℕ, ◌+◌, ◌==◌, ◌∙◌, ◌∷◌, ◌≡◌, ◌≤◌}
-use Rattle.sim_session.proofs.TextCommon.{[], after, arith, Bool, client_of, digest, eq-eqb, Event, events, false, has_load, if◌then◌else◌, is_client, List}
-use Rattle.std.proofs.lemmas.Bool.{true≢false}
-use Rattle.{sim_base.specs.Rows.row_of, sim_base.specs.Turn.may_bend, sim_plain.specs.Messages.Heard, sim_plain.specs.Server.noticed}
+use Rattle.sim_plain_session.specs.{Clients.{orders, played, plays, shows_bend, state_of, told_alone, told_with_done, Up}, Pasts.rules_of}
+use Rattle.{sim_plain_session.specs.Sessions.{events_by, fall_events, leave_events, rise_events}, sim_session.proofs.TextCommon.{after, arith, Bool, client_of}}
+use Rattle.sim_session.proofs.TextCommon.{digest, eq-eqb, Event, events, false, has_load, if◌then◌else◌, is_client, List, loads_in, map, Phase, refl, Session}
+use Rattle.{sim_session.proofs.TextCommon.{Setup, Step, subst, sym, true, turns_in, ℕ, [], ◌+◌, ◌==◌, ◌∙◌, ◌∷◌, ◌≡◌, ◌≤◌}, std.proofs.lemmas.Bool.true≢false}
 
 -- where one of these events is a load, one of them is a load of this client
 abbrev OwnLoads : ℕ → List Event → Type 0

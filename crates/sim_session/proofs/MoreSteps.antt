@@ -1,9 +1,8 @@
 -- A step behind other steps.
-use Rattle.sim_session.proofs.TextCommon.{[], ap, append-nil, append_assoc, arith, Event, event_line, events, events_after, flat_map-append, get_or, length}
-use Rattle.sim_session.proofs.TextCommon.{lines_of, List, loads_in, opened, Seen, Session, session, Setup, StandsFor, Step, stepped, Steps, subst, suc, sym}
-use Rattle.sim_session.proofs.TextCommon.{take, zero, ℕ, ◌++◌, ◌+◌, ◌<◌, ◌∙◌, ◌∷◌, ◌≡◌, ◌≤◌}
-use Rattle.std.{proofs.lemmas.List.take_more, specs.Prelude.cond}
-use Rattle.{sim_plain_session.specs.Sessions.after_steps, sim_session.specs.Laws.is_load_of, std.proofs.lemmas.List.Sums.sum_by-append}
+use Rattle.{sim_plain_session.specs.Sessions.after_steps, sim_session.proofs.TextCommon.{ap, append-nil, append_assoc, arith, Event, event_line, events}}
+use Rattle.sim_session.proofs.TextCommon.{events_after, flat_map-append, get_or, length, lines_of, List, loads_in, opened, Seen, Session, session, Setup}
+use Rattle.sim_session.proofs.TextCommon.{StandsFor, Step, stepped, Steps, subst, suc, sym, take, zero, ℕ, [], ◌++◌, ◌+◌, ◌<◌, ◌∙◌, ◌∷◌, ◌≡◌, ◌≤◌}
+use Rattle.{sim_session.specs.Laws.is_load_of, std.{proofs.lemmas.List.{Sums.sum_by-append, take_more}, specs.Prelude.cond}}
 
 -- its events come behind theirs
 events_more : (setup : Setup) (s : Session) (xs : List Step) (x : Step) → events_after setup s (xs ++ x ∷ []) ≡ events_after setup s xs ++

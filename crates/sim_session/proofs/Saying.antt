@@ -1,11 +1,10 @@
 -- A client that reports is told its own notice.
 use Rattle.sim_plain.specs.declared.message.UpOf.TheVariants as up
+use Rattle.sim_plain.proofs.{Dones.notices_are, Told.{none_told, notices_are_told, told}}
+use Rattle.sim_plain.specs.{declared.{rules.Rules.Rules, status.Status.{Status, TheVariants.{In, Out, Waiting}}}, Messages.{Arrival, Cut, Heard, sender}}
 use Rattle.sim_plain.specs.Server.{command_fault, done_fault, is_in, is_out, notice_in, noticed, notices, notices_given, posts, report_fault, Server}
-use Rattle.sim_plain.specs.declared.status.Status.{Status, TheVariants.In, TheVariants.Out, TheVariants.Waiting}
-use Rattle.sim_plain.specs.{Messages.Arrival, Messages.Cut, Messages.Heard, Messages.sender, Server.server_after, Server.takes_state}
-use Rattle.sim_plain.{proofs.Dones.notices_are, proofs.Told.none_told, proofs.Told.notices_are_told, proofs.Told.told, specs.declared.rules.Rules.Rules}
-use Rattle.std.proofs.Common.{[], Bool, false, if◌then◌else◌, is_none, List, refl, sym, true, true≢false, ℕ, ◌++◌, ◌∙◌, ◌∷◌, ◌≡◌}
-use Rattle.{sim_session.specs.ServedLaws.told_to_senders, std.specs.Prelude.filter_map}
+use Rattle.{sim_plain.specs.Server.{server_after, takes_state}, sim_session.specs.ServedLaws.told_to_senders}
+use Rattle.std.{proofs.Common.{Bool, false, if◌then◌else◌, is_none, List, refl, sym, true, true≢false, ℕ, [], ◌++◌, ◌∙◌, ◌∷◌, ◌≡◌}, specs.Prelude.filter_map}
 
 abbrev Bytes : Type 0
 Bytes = List ℕ

@@ -1,13 +1,12 @@
 -- What is seen of clients that have states is what is told of those that have pasts.
 use Rattle.sim_plain_session.specs.Clients as plain
-use Rattle.sim_session.proofs.TextCommon.{[], ap, append_assoc, beside_seen, clients_apart, codes, end_line, end_of, end_seen, ending_seen, ends_seen}
-use Rattle.sim_session.proofs.TextCommon.{event_line, events_after, flat_map-append, Joining, Life, life_of, lines_of, List, Lives, map, Off, On, opened}
-use Rattle.sim_session.proofs.TextCommon.{pair_apart, pipe_in, pipe_line, pipes_seen, refl, Seen, Session, session_of, session_text, Setup, Some, StandsFor}
-use Rattle.sim_session.proofs.TextCommon.{start_events, State, state_at, state_of, StepList, told_of, ℕ, ◌++◌, ◌<◌, ◌∙◌, ◌∷◌, ◌≡◌, ◌≤◌}
-use Rattle.sim_session.specs.{Endings.down_frames, Endings.end_lines, Endings.pipe_lines, Endings.pipes_of, Endings.up_frames, Laws.apart_lines}
-use Rattle.sim_session.specs.{Laws.ending_lines, Seen.AllLive, Seen.EndingsAreSeen, Seen.pairs_seen}
-use Rattle.sim_wire.specs.Reading.{IsDownFrame, IsUpFrame, down_frame, up_frame}
-use Rattle.{sim_pipes.specs.Pipes.AreFrames, sim_plain_session.proofs.PlayerLemmas.same_turn, sim_session.proofs.Telling.told_same}
+use Rattle.{sim_pipes.specs.Pipes.AreFrames, sim_plain_session.proofs.PlayerLemmas.same_turn}
+use Rattle.sim_session.proofs.{Telling.told_same, TextCommon.{ap, append_assoc, beside_seen, clients_apart, codes, end_line, end_of, end_seen, ending_seen}}
+use Rattle.sim_session.proofs.TextCommon.{ends_seen, event_line, events_after, flat_map-append, Joining, Life, life_of, lines_of, List, Lives, map, Off, On}
+use Rattle.sim_session.proofs.TextCommon.{opened, pair_apart, pipe_in, pipe_line, pipes_seen, refl, Seen, Session, session_of, session_text, Setup, Some}
+use Rattle.sim_session.proofs.TextCommon.{StandsFor, start_events, State, state_at, state_of, StepList, told_of, ℕ, [], ◌++◌, ◌<◌, ◌∙◌, ◌∷◌, ◌≡◌, ◌≤◌}
+use Rattle.sim_session.specs.{Endings.{down_frames, end_lines, pipe_lines, pipes_of, up_frames}, Laws.{apart_lines, ending_lines}}
+use Rattle.{sim_session.specs.Seen.{AllLive, EndingsAreSeen, pairs_seen}, sim_wire.specs.Reading.{down_frame, IsDownFrame, IsUpFrame, up_frame}}
 
 pub end_same : (setup : Setup) (life : Life) (phase : plain.Phase) → Lives setup life phase → end_seen setup life ≡ end_of setup phase
 end_same setup Off plain.Off lives = refl

@@ -2,17 +2,16 @@
 use Rattle.sim_base.specs.declared.step.Event.TheVariants as event
 use Rattle.sim_base.specs.declared.step.Step.TheVariants as step
 use Rattle.sim_session.specs.declared.ending.End.TheVariants as ends
-use Rattle.sim_plain_session.proofs.Enabling.{carries_either, events_are_shown, starts_are_shown, steps_have_events}
-use Rattle.sim_plain_session.specs.{Clients.Joining, Clients.Off, Clients.On, Clients.begun, Clients.digest_of, Pasts.kept_turns, Sessions.Carries}
-use Rattle.sim_session.proofs.TextCommon.{All, append-nil, append_assoc, client_of, cond-true, events_after, holds_session, is_active, session_of, start_events}
-use Rattle.sim_session.proofs.TextCommon.{[], ap, arith, Event, inl, min, Phase, refl, Setup, Step, subst, suc, sym, true, zero, ℕ, ◌++◌, ◌∙◌, ◌∷◌, ◌≡◌, ◌≤◌}
-use Rattle.sim_session.proofs.TextCommon.{after, digest, end_of, is_client, IsStep, le-leb, List, lt-ltb, opened, Session, session, StepList, stepped, turns_in}
-use Rattle.sim_session.specs.Laws.{EndsShowPasts, events_of, EventsShowPasts, IsStepAt, PlaysAreTold, session_at, ShowsPast, StandsAt, StartsShowPasts}
-use Rattle.{sim_base.specs.Limits.IsFrom, sim_base.specs.Turn.Turn, sim_session.specs.Laws.StepsAreTold, std.proofs.Common.inr, std.proofs.Common.◌⊎◌}
-use Rattle.{sim_base.specs.declared.command.PlayerCommand.PlayerCommand, sim_session.specs.Laws.step_events, sim_session_laws.proofs.Fitting.released_are_final}
-use Rattle.{sim_lists.specs.StepLists.IsStepList, sim_plain_session.specs.Sessions.IsAt, sim_session.specs.Laws.StepsShowPasts, std.proofs.lemmas.Bool.and_from}
-use Rattle.{sim_plain_session.proofs.GoingOn.session_goes_on, sim_plain_session.specs.Sessions.IsShown, sim_session_laws.proofs.Fitting.turns_are_released}
-use Rattle.{sim_session_laws.proofs.Basics.all_right, sim_session_laws.proofs.Fitting.unbent_are_kept, std.proofs.lemmas.List.Elements.All-head}
+use Rattle.{sim_base.specs.{declared.command.PlayerCommand.PlayerCommand, Limits.IsFrom, Turn.Turn}, sim_lists.specs.StepLists.IsStepList}
+use Rattle.sim_plain_session.proofs.{Enabling.{carries_either, events_are_shown, starts_are_shown, steps_have_events}, GoingOn.session_goes_on}
+use Rattle.sim_plain_session.specs.{Clients.{begun, digest_of, Joining, Off, On}, Pasts.kept_turns, Sessions.{Carries, IsAt, IsShown}}
+use Rattle.sim_session.proofs.TextCommon.{after, All, ap, append-nil, append_assoc, arith, client_of, cond-true, digest, end_of, Event, events_after}
+use Rattle.sim_session.proofs.TextCommon.{holds_session, inl, is_active, is_client, IsStep, le-leb, List, lt-ltb, min, opened, Phase, refl, Session, session}
+use Rattle.sim_session.proofs.TextCommon.{session_of, Setup, start_events, Step, StepList, stepped, subst, suc, sym, true, turns_in, zero, ℕ, [], ◌++◌, ◌∙◌}
+use Rattle.sim_session.{proofs.TextCommon.{◌∷◌, ◌≡◌, ◌≤◌}, specs.Laws.{EndsShowPasts, events_of, EventsShowPasts, IsStepAt, PlaysAreTold, session_at}}
+use Rattle.sim_session.specs.Laws.{ShowsPast, StandsAt, StartsShowPasts, step_events, StepsAreTold, StepsShowPasts}
+use Rattle.sim_session_laws.proofs.{Basics.all_right, Fitting.{released_are_final, turns_are_released, unbent_are_kept}}
+use Rattle.std.proofs.{Common.{inr, ◌⊎◌}, lemmas.{Bool.and_from, List.Elements.All-head}}
 
 -- ---- the commands of released turns stay
 

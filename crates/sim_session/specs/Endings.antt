@@ -1,10 +1,9 @@
 -- What each client of a session has come to.
 use Rattle.sim_session.specs.declared.ending.End.TheVariants as ends
-use Rattle.sim_plain_session.specs.Clients.{digest_of, Joining, Off, On, Phase}
-use Rattle.std.specs.Prelude.{List, [], codes, decimal, flat_map, length, map, suc, zero, ℕ, ◌++◌}
-use Rattle.{sim_base.specs.Turn.turns_in, sim_base.specs.declared.setup.Setup.Setup, sim_plain_session.specs.Sessions.Session}
-use Rattle.{sim_plain_session.specs.Sessions.downs_of, sim_plain_session.specs.Sessions.ups_of, sim_report.specs.Lines.spaced_number}
-use Rattle.{sim_report.specs.Lines.turn_line, sim_session.specs.declared.ending.End.End, sim_wire.specs.Reading.down_frame, sim_wire.specs.Reading.up_frame}
+use Rattle.sim_base.specs.{declared.setup.Setup.Setup, Turn.turns_in}
+use Rattle.sim_plain_session.specs.{Clients.{digest_of, Joining, Off, On, Phase}, Sessions.{downs_of, Session, ups_of}}
+use Rattle.{sim_report.specs.Lines.{spaced_number, turn_line}, sim_session.specs.declared.ending.End.End, sim_wire.specs.Reading.{down_frame, up_frame}}
+use Rattle.std.specs.Prelude.{codes, decimal, flat_map, length, List, map, suc, zero, ℕ, [], ◌++◌}
 
 -- what is told of each of 1 to n, in their order
 abbrev pub told_of : (ℕ → List ℕ) → ℕ → List ℕ

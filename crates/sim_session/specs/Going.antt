@@ -1,14 +1,13 @@
 -- What becomes of a session and of the rigs of its clients: the facts of each call by name. A clause passes ⟦<dyn System as System>⟧ for `sys`.
 use Rattle.sim_client.specs.ClientWords as client
 use Rattle.sim_system.specs.RigWords as rig
-use Rattle.sim_base.specs.{Limits.IsSetup, declared.setup.Setup.Setup, declared.step.Event.Event, declared.step.Step.Step}
-use Rattle.sim_client.specs.{Lives.Life, StageWords.AreCleared, StageWords.AreOf, StageWords.IsSoundAt, StageWords.nowhere, StageWords.systems_on}
+use Rattle.{sim_base.specs.{declared.{setup.Setup.Setup, step.{Event.Event, Step.Step}}, Limits.IsSetup}, sim_client.specs.declared.client.Client.Client}
+use Rattle.{sim_client.specs.{Lives.Life, StageWords.{AreCleared, AreOf, IsSoundAt, nowhere, systems_on}}, sim_lists.specs.declared.step_list.StepList.StepList}
+use Rattle.{sim_lists.specs.StepLists.IsStepList, sim_session.specs.{declared.session.Session.Session, Laws.{AllBuiltAtMost, builds_of, session_of}}}
+use Rattle.sim_session.specs.Standing.{AreBuilt, AreBuiltIf, ChangeAt, has_load, IsIdle, life_of, Seen, StandsFor, StandsForSome}
+use Rattle.sim_system.specs.{declared.{rig.Rig.Rig, system.System.Ghosts}, Meanings.{HaveKinds, Meaning, Systems}}
+use Rattle.std.specs.Prelude.{All, drop, IfOk, IsOk, length, List, map, OnOk, Result, slice_index_or, Vec, vec_capacity, ℕ, ◌++◌, ◌+◌, ◌-◌, ◌<◌, ◌≡◌, ◌≤◌}
 use Rattle.sim_plain_session.specs.Sessions.{client_of, events, opened, session as session_over}
-use Rattle.sim_session.specs.{Laws.AllBuiltAtMost, Laws.builds_of, Laws.session_of, Standing.AreBuilt, Standing.AreBuiltIf, Standing.ChangeAt, Standing.IsIdle}
-use Rattle.sim_session.specs.{Standing.Seen, Standing.StandsFor, Standing.StandsForSome, Standing.has_load, Standing.life_of, declared.session.Session.Session}
-use Rattle.sim_system.specs.{Meanings.HaveKinds, Meanings.Meaning, Meanings.Systems, declared.rig.Rig.Rig, declared.system.System.Ghosts}
-use Rattle.std.specs.Prelude.{All, IfOk, IsOk, List, OnOk, Result, Vec, drop, length, map, slice_index_or, vec_capacity, ℕ, ◌++◌, ◌+◌, ◌-◌, ◌<◌, ◌≡◌, ◌≤◌}
-use Rattle.{sim_client.specs.declared.client.Client.Client, sim_lists.specs.StepLists.IsStepList, sim_lists.specs.declared.step_list.StepList.StepList}
 
 -- What a session is to its callers. A clause passes ⟦<dyn System as System>⟧ for `sys`; words that take the meaning of a system in
 -- its place are for proofs.

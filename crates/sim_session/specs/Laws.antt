@@ -2,18 +2,15 @@
 use Rattle.sim_base.specs.declared.step.Event.TheVariants as event
 use Rattle.sim_base.specs.declared.step.Step.TheVariants as step
 use Rattle.sim_session.specs.declared.ending.End.TheVariants as ends
-use Rattle.sim_base.specs.{Limits.IsSetup, Spelling.digest, Turn.Turn, Turn.after, Turn.turns_in, declared.setup.Setup.Setup, declared.state.State.State}
-use Rattle.sim_plain_session.specs.Clients.{Joining, Off, On, Phase, Seat, state_of}
-use Rattle.sim_plain_session.specs.Sessions.{CanPlay, Carries, events, IsOfStep, notices_in, Session, session, session_events}
-use Rattle.sim_session.specs.{Endings.end_lines, Endings.end_of, Endings.of_client, Endings.pipe_lines, Endings.told_of, Served.kept_lines}
-use Rattle.std.specs.Prelude.{[], Bool, codes, count_by, decimal, false, flat_map, if◌then◌else◌, List, nat_le, nat_lt, None, Option, slice_index_or, Some, suc}
-use Rattle.std.specs.Prelude.{◌++◌, ◌+◌, ◌-◌, ◌<◌, ◌==◌, ◌↔◌, ◌∷◌, ◌≡◌, ◌≤◌}
-use Rattle.{sim_base.specs.declared.step.Event.Event, sim_base.specs.declared.step.Step.Step, sim_client.specs.StageWords.AreCleared}
-use Rattle.{sim_client.specs.StageWords.nowhere, sim_diff.specs.Difference.difference_of, sim_diff.specs.declared.place.Place.Place}
-use Rattle.{sim_lists.specs.StepLists.IsStepList, sim_lists.specs.declared.step_list.StepList.StepList, sim_plain.specs.Server.Server}
-use Rattle.{sim_plain.specs.Server.notices, sim_plain_session.specs.Pasts.is_unbent, sim_plain_session.specs.Pasts.kept_turns}
-use Rattle.{sim_plain_session.specs.Pasts.rules_of, sim_report.specs.Downs.released_line, sim_report.specs.Lines.event_line, sim_report.specs.Places.part_name}
-use Rattle.{sim_system.specs.Meanings.AreFed, sim_system.specs.Meanings.Meaning, sim_system.specs.Meanings.Systems, std.specs.Prelude.true, std.specs.Prelude.ℕ}
+use Rattle.sim_base.specs.{declared.{setup.Setup.Setup, state.State.State, step.{Event.Event, Step.Step}}, Limits.IsSetup, Spelling.digest}
+use Rattle.{sim_base.specs.Turn.{after, Turn, turns_in}, sim_client.specs.StageWords.{AreCleared, nowhere}}
+use Rattle.{sim_diff.specs.{declared.place.Place.Place, Difference.difference_of}, sim_lists.specs.{declared.step_list.StepList.StepList, StepLists.IsStepList}}
+use Rattle.{sim_plain.specs.Server.{notices, Server}, sim_plain_session.specs.{Clients.{Joining, Off, On, Phase, Seat, state_of}, Pasts.is_unbent}}
+use Rattle.sim_plain_session.specs.{Pasts.{kept_turns, rules_of}, Sessions.{CanPlay, Carries, events, IsOfStep, notices_in, Session, session, session_events}}
+use Rattle.{sim_report.specs.{Downs.released_line, Lines.event_line, Places.part_name}, sim_session.specs.Endings.{end_lines, end_of, of_client, pipe_lines}}
+use Rattle.{sim_session.specs.{Endings.told_of, Served.kept_lines}, sim_system.specs.Meanings.{AreFed, Meaning, Systems}}
+use Rattle.std.specs.Prelude.{Bool, codes, count_by, decimal, false, flat_map, if◌then◌else◌, List, nat_le, nat_lt, None, Option, slice_index_or, Some, suc}
+use Rattle.std.specs.Prelude.{true, ℕ, [], ◌++◌, ◌+◌, ◌-◌, ◌<◌, ◌==◌, ◌↔◌, ◌∷◌, ◌≡◌, ◌≤◌}
 
 -- Which clients of a session have come to different states in one turn.
 

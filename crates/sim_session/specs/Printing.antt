@@ -2,10 +2,9 @@
 use Rattle.sim_base.specs.declared.step.Event.TheVariants as event
 use Rattle.sim_plain.specs.declared.message.DownOf.TheVariants as down
 use Rattle.sim_plain.specs.declared.message.UpOf.TheVariants as up
-use Rattle.sim_base.specs.{Spelling.digest, declared.setup.Setup.Setup, declared.step.Event.Event}
-use Rattle.sim_client.specs.Lives.{Joining, Life, Off, On, Said, shows, Told}
-use Rattle.sim_client.specs.declared.did.Did.{Did, TheVariants.Done, TheVariants.Idle}
-use Rattle.std.specs.Prelude.{[], Bool, false, if◌then◌else◌, List, None, Option, Some, true, ℕ, ◌&&◌, ◌∷◌}
+use Rattle.sim_base.specs.{declared.{setup.Setup.Setup, step.Event.Event}, Spelling.digest}
+use Rattle.sim_client.specs.{declared.did.Did.{Did, TheVariants.{Done, Idle}}, Lives.{Joining, Life, Off, On, Said, shows, Told}}
+use Rattle.std.specs.Prelude.{Bool, false, if◌then◌else◌, List, None, Option, Some, true, ℕ, [], ◌&&◌, ◌∷◌}
 
 -- a wish to join or an order, each by the first message that it sends
 abbrev pub said_events : ℕ → List Said → List Event

@@ -1,12 +1,11 @@
 -- What is printed of a session in the end, as it is seen of clients that have states and of pipes of frames.
 use Rattle.sim_client.specs.ClientWords as client
 use Rattle.sim_session.specs.declared.ending.End.TheVariants as ends
-use Rattle.sim_client.specs.{Lives.Life, Lives.Lives, Lives.Off, Lives.On, declared.client.Client.Client}
-use Rattle.sim_session.specs.{Endings.end_line, Endings.pipe_line, Endings.told_of, Laws.ending_lines, Laws.pair_apart, Laws.server_lines}
-use Rattle.std.specs.Prelude.{All, List, codes, length, map, slice_index_or, ℕ, ◌++◌, ◌-◌, ◌<◌, ◌≡◌, ◌≤◌}
-use Rattle.{sim_base.specs.Spelling.digest, sim_base.specs.declared.setup.Setup.Setup, sim_client.specs.ClientWords.state_of, sim_client.specs.Lives.Joining}
-use Rattle.{sim_pipes.specs.Pipes.Conveys, sim_pipes.specs.Pipes.Held, sim_pipes.specs.Pipes.pipe_in, sim_plain_session.specs.Sessions.Session}
-use Rattle.{sim_server.specs.Standing.server_of, sim_session.specs.declared.ending.End.End, sim_system.specs.declared.system.System.Ghosts}
+use Rattle.{sim_base.specs.{declared.setup.Setup.Setup, Spelling.digest}, sim_client.specs.{ClientWords.state_of, declared.client.Client.Client}}
+use Rattle.{sim_client.specs.Lives.{Joining, Life, Lives, Off, On}, sim_pipes.specs.Pipes.{Conveys, Held, pipe_in}, sim_plain_session.specs.Sessions.Session}
+use Rattle.{sim_server.specs.Standing.server_of, sim_session.specs.{declared.ending.End.End, Endings.{end_line, pipe_line, told_of}}}
+use Rattle.{sim_session.specs.Laws.{ending_lines, pair_apart, server_lines}, sim_system.specs.declared.system.System.Ghosts}
+use Rattle.std.specs.Prelude.{All, codes, length, List, map, slice_index_or, ℕ, ◌++◌, ◌-◌, ◌<◌, ◌≡◌, ◌≤◌}
 
 -- what a client is that has a state
 abbrev pub end_seen : Setup → Life → End

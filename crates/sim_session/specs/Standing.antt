@@ -2,15 +2,13 @@
 use Rattle.sim_base.specs.declared.step.Step.TheVariants as step
 use Rattle.sim_plain.specs.declared.message.DownOf.TheVariants as down
 use Rattle.sim_base.specs.declared.step.Event.TheVariants as event
-use Rattle.sim_base.specs.{Limits.HasFewIds, Limits.IsValid, Turn.Past, Turn.after, declared.setup.Setup.Setup, declared.step.Event.Event}
-use Rattle.sim_client.specs.declared.{client.Client.Client, did.Did.TheVariants.Done, did.Did.TheVariants.Idle}
-use Rattle.sim_client.specs.{ClientWords.life, ClientWords.setup_in, Lives.Life, Lives.Lives, Lives.Off, Lives.Said, StageWords.IsSoundAt, declared.did.Did.Did}
-use Rattle.sim_plain_session.specs.Sessions.{client_of, events, events_by, Session, session, stepped, stepped_by}
-use Rattle.sim_system.specs.Meanings.{AreBuiltOnceAtMost, HaveKinds, HaveSameRebuilds, Meaning, Systems}
-use Rattle.std.specs.Prelude.{IfOk, IsOk, List, OnOk, Result, [], false, length, slice_index_or, true, ℕ, ◌++◌, ◌-◌, ◌<◌, ◌||◌, ◌∷◌, ◌≡◌, ◌≢◌, ◌≤◌}
-use Rattle.{sim_base.specs.declared.step.Step.Step, sim_board.specs.Boards.AreKept, sim_client.specs.StageWords.systems_on}
-use Rattle.{sim_pipes.specs.Pipes.Conveys, sim_pipes.specs.Pipes.Held, sim_plain_session.specs.Clients.Down, sim_plain_session.specs.Clients.On}
-use Rattle.{sim_plain_session.specs.Clients.Seat, sim_server.specs.Standing.IsClient, sim_system.specs.declared.system.System.Ghosts, std.specs.Prelude.Bool}
+use Rattle.sim_base.specs.{declared.{setup.Setup.Setup, step.{Event.Event, Step.Step}}, Limits.{HasFewIds, IsValid}, Turn.{after, Past}}
+use Rattle.{sim_board.specs.Boards.AreKept, sim_client.specs.{ClientWords.{life, setup_in}, declared.client.Client.Client}}
+use Rattle.sim_client.specs.{declared.did.Did.{Did, TheVariants.{Done, Idle}}, Lives.{Life, Lives, Off, Said}, StageWords.{IsSoundAt, systems_on}}
+use Rattle.{sim_pipes.specs.Pipes.{Conveys, Held}, sim_plain_session.specs.Clients.{Down, On, Seat}}
+use Rattle.{sim_plain_session.specs.Sessions.{client_of, events, events_by, Session, session, stepped, stepped_by}, sim_server.specs.Standing.IsClient}
+use Rattle.sim_system.specs.{declared.system.System.Ghosts, Meanings.{AreBuiltOnceAtMost, HaveKinds, HaveSameRebuilds, Meaning, Systems}}
+use Rattle.std.specs.Prelude.{Bool, false, IfOk, IsOk, length, List, OnOk, Result, slice_index_or, true, ℕ, [], ◌++◌, ◌-◌, ◌<◌, ◌||◌, ◌∷◌, ◌≡◌, ◌≢◌, ◌≤◌}
 
 -- a number of a client
 abbrev pub IsNumber : Setup → ℕ → Type 0

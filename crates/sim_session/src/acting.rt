@@ -1,25 +1,22 @@
 //! The kinds of step, each by one client beside the server and the pipes.
 
+ghost use Rattle.{sim_base.specs.{declared.setup.Setup.Setup as AnySetup, Limits.HasFewIds}, sim_client.specs.ClientWords.{HasDigest, IsSound, life, setup_in}};
+ghost use Rattle.{sim_client.specs.Lives.{bends, joins, orders, plays, shows}, sim_pipes.specs.Pipes.Conveys, sim_plain.specs.Messages.carry_up};
+ghost use Rattle.sim_plain_session.specs.{Clients.Acted, Sessions.{acts, client_of as client_in, events_by, Session, spelled, stepped_by}};
+ghost use Rattle.sim_server.specs.Standing.{IsClient};
+ghost use Rattle.sim_session.specs.Printing.{has_happened, is_off as is_off_of, played_events, said_events as events_said};
+ghost use Rattle.{sim_session.specs.Standing.{Acts, IsSmallStep, Loads, MayAct, MayHear, said_by, StandBeside}, sim_wire.specs.Reading.IsSmallUp};
+ghost use Rattle.std.specs.Prelude.{All, false, IfOk, IsOk, map, None, OnOk, true, [], ◌≡◌};
 ghost use Rattle.sim_base.specs.declared.step.Event.TheVariants as event;
 ghost use Rattle.sim_base.specs.declared.step.Step.TheVariants as step;
-ghost use Rattle.std.specs.Prelude.{[], All, false, IfOk, IsOk, map, None, OnOk, true, ◌≡◌};
-ghost use Rattle.sim_client.specs.ClientWords.{HasDigest, IsSound, life, setup_in};
-ghost use Rattle.sim_client.specs.Lives.{joins, orders, plays, shows};
-ghost use Rattle.sim_plain_session.specs.Sessions.{acts, client_of as client_in, events_by, Session, spelled, stepped_by};
-ghost use Rattle.sim_session.specs.Printing.{has_happened, is_off as is_off_of, played_events, said_events as events_said};
-ghost use Rattle.sim_session.specs.Standing.{Acts, IsSmallStep, Loads, MayAct, MayHear, StandBeside, said_by};
-ghost use Rattle.sim_wire.specs.Reading.{IsSmallUp};
-ghost use Rattle.{sim_base.specs.Limits.HasFewIds, sim_base.specs.declared.setup.Setup.Setup as AnySetup, sim_client.specs.Lives.bends};
-ghost use Rattle.{sim_pipes.specs.Pipes.Conveys, sim_plain.specs.Messages.carry_up, sim_plain_session.specs.Clients.Acted, sim_server.specs.Standing.IsClient};
 
 use crate::hearing::down;
 use crate::printing::{one, said_events, shown};
-use sim_base::{Command, Event, Events, Fixed, Items, OutOfMemory, Step};
+use sim_base::{Command, Event, Events, Fixed, Global, Items, OutOfMemory, Step};
 use sim_client::{Client, Did, Digests, Played, Ups};
 use sim_pipes::Exchange;
 use sim_system::System;
 use sim_wire::Up;
-use std::alloc::Global;
 
 /// What a client said, if it did anything.
 pub fn ups_of(alloc: Global, did: Did) -> Ups

@@ -1,8 +1,7 @@
 //! What is seen of a client in the end.
 
+ghost use Rattle.{sim_client.specs.ClientWords.{IsSound, life, setup_in, state_of}, sim_session.specs.{Laws.pair_apart, Seen.end_seen}};
 ghost use Rattle.std.specs.Prelude.{OnOk, string_bytes, ◌++◌, ◌≡◌};
-ghost use Rattle.sim_client.specs.ClientWords.{IsSound, life, setup_in, state_of};
-ghost use Rattle.sim_session.specs.{Laws.pair_apart, Seen.end_seen};
 
 use crate::apart::push_difference;
 use crate::ending::End;

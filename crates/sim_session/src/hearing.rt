@@ -1,20 +1,18 @@
 //! A client hears the first message in the pipe to it.
 
+ghost use Rattle.{sim_client.specs.{ClientWords.{IsSound, life, setup_in}, Lives.shows}, sim_pipes.specs.Pipes.pipe_in};
+ghost use Rattle.sim_session.specs.{Printing.{has_happened, heard_events, is_state as is_state_in, refusal_in}, Standing.{Loads, MayHear}};
+ghost use Rattle.std.specs.Prelude.{IfOk, IsOk, [], ◌≡◌};
 ghost use Rattle.sim_base.specs.declared.step.Event.TheVariants as event;
 ghost use Rattle.sim_base.specs.declared.step.Step.TheVariants as step;
-ghost use Rattle.std.specs.Prelude.{[], IfOk, IsOk, ◌≡◌};
-ghost use Rattle.sim_client.specs.{ClientWords.IsSound, ClientWords.life, ClientWords.setup_in, Lives.shows};
-ghost use Rattle.sim_session.specs.Printing.{has_happened, heard_events, is_state as is_state_in, refusal_in};
-ghost use Rattle.{sim_pipes.specs.Pipes.pipe_in, sim_session.specs.Standing.Loads, sim_session.specs.Standing.MayHear};
 
 use crate::acting::ups_of;
 use crate::printing::{one, shown};
-use sim_base::{Event, Events, Items, OutOfMemory};
+use sim_base::{Event, Events, Global, Items, OutOfMemory};
 use sim_client::{Client, Did};
 use sim_pipes::Exchange;
 use sim_system::System;
 use sim_wire::Down;
-use std::alloc::Global;
 
 // Why something is refused, in a message that says so.
 fn refusal_of(down: &Down) -> Option<u8>

@@ -1,22 +1,20 @@
 //! A session that is begun, goes through its steps and is told.
 
-ghost use Rattle.std.specs.Prelude.{IfOk, OnOk, string_bytes, ◌++◌, ◌≡◌};
-ghost use Rattle.sim_client.specs.ClientWords.{IsSound, digest_of, life, setup_in as client_setup_in};
+ghost use Rattle.{sim_client.specs.ClientWords.{digest_of, IsSound, life, setup_in as client_setup_in}, sim_lists.specs.StepLists.IsStepList};
+ghost use Rattle.sim_plain_session.specs.Sessions.{events_after, opened, start_events};
 ghost use Rattle.sim_session.specs.Going.{ComeBackBuilt, HasOpened, MayBegin, MayPass, Passes, rigs_of, setup_in};
-ghost use Rattle.sim_session.specs.Laws.{AllStand, builds_of, lines_of, loads_in, session_of, session_text as text_of_session};
-ghost use Rattle.{sim_lists.specs.StepLists.IsStepList, sim_plain_session.specs.Sessions.events_after, sim_plain_session.specs.Sessions.opened};
-ghost use Rattle.{sim_plain_session.specs.Sessions.start_events, sim_session.specs.Starts.start_lines};
+ghost use Rattle.sim_session.specs.{Laws.{AllStand, builds_of, lines_of, loads_in, session_of, session_text as text_of_session}, Starts.start_lines};
+ghost use Rattle.std.specs.Prelude.{IfOk, OnOk, string_bytes, ◌++◌, ◌≡◌};
 
 use crate::closing::push_ending;
 use crate::session::Session;
 use crate::told::push_events;
-use sim_base::{Event, OutOfMemory, Setup};
+use sim_base::{Event, Global, OutOfMemory, Setup};
 use sim_client::Client;
 use sim_lists::StepList;
 use sim_orders::OrderTable;
 use sim_report::push_event;
 use sim_system::{Rig, System};
-use std::alloc::Global;
 
 // Appends the line of a client that is on at the beginning.
 fn push_start(client: &Client<'_>, number: u8, text: &mut String) -> Result<(), OutOfMemory>

@@ -1,14 +1,12 @@
 //! The events of what a client did.
 
-ghost use Rattle.std.specs.Prelude.{◌≡◌, [], ◌∷◌, IfOk, IsOk};
-ghost use Rattle.sim_client.specs.ClientWords.{digest_of, IsSound, life, setup_in};
-ghost use Rattle.sim_session.specs.Printing.{said_events as events_said, shown_of};
+ghost use Rattle.{sim_client.specs.ClientWords.{digest_of, IsSound, life, setup_in}, sim_session.specs.Printing.{said_events as events_said, shown_of}};
+ghost use Rattle.std.specs.Prelude.{IfOk, IsOk, [], ◌∷◌, ◌≡◌};
 
-use sim_base::{Event, Events, Items, OutOfMemory};
+use sim_base::{Event, Events, Global, Items, OutOfMemory};
 use sim_client::Client;
 use sim_system::System;
 use sim_wire::Up;
-use std::alloc::Global;
 
 /// One event.
 pub fn one(alloc: Global, event: Event) -> Result<Events, OutOfMemory>

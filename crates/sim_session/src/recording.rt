@@ -1,20 +1,18 @@
 //! A session that is gone through without a word of it, for the commands that were kept of its released turns.
 
-ghost use Rattle.std.specs.List.{range_with_len};
-ghost use Rattle.std.specs.Prelude.{All, drop, IfOk, length, map, take, vec_capacity, ◌≡◌, ◌≤◌};
-ghost use Rattle.sim_session.specs.Going.{ComeBackBuilt, Keeps, MayBegin, MayPass, Passes, rigs_of, setup_in, systems_in};
-ghost use Rattle.sim_session.specs.{Laws.AllBuiltAtMost, Laws.builds_of, Laws.loads_in, Laws.session_of, Recording.released_turns as turns_released};
-ghost use Rattle.{sim_client.specs.StageWords.AreCleared, sim_lists.specs.StepLists.IsStepList, sim_plain_session.specs.Sessions.events_after};
-ghost use Rattle.{sim_plain_session.specs.Sessions.opened, sim_server.specs.Standing.server_of, sim_system.specs.Meanings.HaveKinds};
+ghost use Rattle.{sim_client.specs.StageWords.AreCleared, sim_lists.specs.StepLists.IsStepList, sim_plain_session.specs.Sessions.{events_after, opened}};
+ghost use Rattle.{sim_server.specs.Standing.server_of, sim_session.specs.Going.{ComeBackBuilt, Keeps, MayBegin, MayPass, Passes, rigs_of, setup_in}};
+ghost use Rattle.sim_session.specs.{Going.systems_in, Laws.{AllBuiltAtMost, builds_of, loads_in, session_of}, Recording.released_turns as turns_released};
+ghost use Rattle.sim_system.specs.Meanings.{HaveKinds};
+ghost use Rattle.std.specs.{List.range_with_len, Prelude.{All, drop, IfOk, length, map, take, vec_capacity, ◌≡◌, ◌≤◌}};
 
 use crate::session::Session;
-use sim_base::{Items, OutOfMemory, PlayerCommand, Setup};
+use sim_base::{Global, Items, OutOfMemory, PlayerCommand, Setup};
 use sim_lists::StepList;
 use sim_orders::OrderTable;
 use sim_replay::{Orders, Turns};
 use sim_server::Server;
 use sim_system::{Rig, System};
-use std::alloc::Global;
 
 // Makes each step of the list.
 fn make_steps(session: &mut Session<'_>, list: &StepList) -> Result<(), OutOfMemory>

@@ -5,11 +5,10 @@ ghost use Rattle.std.specs.Prelude.{[], All, drop, length, replicate, vec_capaci
 ghost use Rattle.sim_session.specs.Going.{AreFresh, AreMembers, lives_of, rigs_of, Seats, systems_of};
 ghost use Rattle.{sim_base.specs.Limits.IsSetup, sim_client.specs.Lives.Off, sim_system.specs.Meanings.HaveKinds};
 
-use sim_base::Setup;
+use sim_base::{Global, Setup};
 use sim_client::Client;
 use sim_orders::OrderTable;
 use sim_system::{Rig, System};
-use std::alloc::Global;
 
 // Makes a client of the first rig.
 fn seat_one<'a>(

@@ -1,16 +1,14 @@
 //! The run of a schedule: each arrival is heard and its answer is printed before the next one is heard.
 
-ghost use Rattle.std.specs.Prelude.{All, flat_map, IfOk, length, List, map, OnOk, string_bytes, ℕ, ◌++◌, ◌≡◌};
-ghost use Rattle.sim_lists.specs.{Arrivals.plain_arrival, StepLists.IsFromClient, StepLists.IsSchedule};
-ghost use Rattle.sim_server.specs.Standing.{IsClient, StandsFor, server_of as plain_server};
+ghost use Rattle.{sim_lists.specs.{Arrivals.plain_arrival, StepLists.{IsFromClient, IsSchedule}}, sim_plain.specs.Messages.Arrival as PlainArrival};
+ghost use Rattle.{sim_report.specs.Downs.post_line, sim_server.specs.Standing.{Answers, IsClient, server_of as plain_server, StandsFor}};
 ghost use Rattle.sim_session.specs.Served.{history, kept_lines, kept_of, said_lines, served_text as text_of_schedule};
-ghost use Rattle.{sim_plain.specs.Messages.Arrival as PlainArrival, sim_report.specs.Downs.post_line, sim_server.specs.Standing.Answers};
+ghost use Rattle.std.specs.Prelude.{All, flat_map, IfOk, length, List, map, OnOk, string_bytes, ℕ, ◌++◌, ◌≡◌};
 
-use sim_base::OutOfMemory;
+use sim_base::{Global, OutOfMemory};
 use sim_lists::{Arrival, Arrivals, Said, Schedule};
 use sim_report::{push_kept, push_post, push_released};
 use sim_server::{Posts, Server};
-use std::alloc::Global;
 
 /// What is printed of a schedule.
 pub fn served_text(alloc: Global, schedule: Schedule) -> Result<String, OutOfMemory>

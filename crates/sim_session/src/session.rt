@@ -1,23 +1,21 @@
 //! A session. After want of memory it may only be finished.
 
-ghost use Rattle.std.specs.Prelude.{All, drop, IfErr, IfOk, if◌then◌else◌, length, OnOk, vec_capacity, ℕ, ◌++◌, ◌<◌, ◌≡◌, ◌≤◌};
-ghost use Rattle.sim_client.specs.{ClientWords.IsSound, ClientWords.life, ClientWords.setup_in as client_setup_in, Lives.Off, Lives.starts};
+ghost use Rattle.{sim_client.specs.{ClientWords.{IsSound, life, setup_in as client_setup_in}, Lives.{Off, starts}}, sim_pipes.specs.Pipes.pipe_in};
+ghost use Rattle.sim_plain_session.specs.Sessions.{client_of as client_in, opened};
 ghost use Rattle.sim_session.specs.Going.{AreMembers, AreOfClients, clients_in, GoesOn, HasOpened, IsOn, IsSession, lives_of, MayBegin, MayFinish, rigs_of};
 ghost use Rattle.sim_session.specs.Going.{room_in, seen_in, setup_in, spare_in, systems_in, systems_of, Takes};
-ghost use Rattle.sim_session.specs.Standing.{IsNumber, IsSmallStep, StandsFor, StartsOnly, Steps, life_of};
-ghost use Rattle.sim_system.specs.Meanings.{HaveKinds};
-ghost use Rattle.{sim_pipes.specs.Pipes.pipe_in, sim_plain_session.specs.Sessions.client_of as client_in, sim_plain_session.specs.Sessions.opened};
+ghost use Rattle.{sim_session.specs.Standing.{IsNumber, IsSmallStep, life_of, StandsFor, StartsOnly, Steps}, sim_system.specs.Meanings.HaveKinds};
+ghost use Rattle.std.specs.Prelude.{All, drop, IfErr, IfOk, if◌then◌else◌, length, OnOk, vec_capacity, ℕ, ◌++◌, ◌<◌, ◌≡◌, ◌≤◌};
 
 use crate::acting::{act, client_of};
 use crate::rigs::{seat, unseat};
-use sim_base::{Events, OutOfMemory, Setup, Step};
+use sim_base::{Events, Global, OutOfMemory, Setup, Step};
 use sim_client::{Client, Digests};
 use sim_orders::OrderTable;
 use sim_pipes::Exchange;
 use sim_server::Server;
 use sim_system::{Rig, System};
 use sim_wire::Bytes;
-use std::alloc::Global;
 
 /// A session of a match: a client for each player, the server, the pipes between them, and the digests of the states that clients
 /// came to last.

@@ -1,16 +1,15 @@
 -- A client is cut.
 use Rattle.sim_plain.specs.declared.message.DownOf.TheVariants as down
 use Rattle.sim_base.specs.declared.step.Step.TheVariants as step
-use Rattle.sim_plain.proofs.Calm.{in_waits_not, Stay, waits_is}
-use Rattle.sim_session_laws.proofs.Basics.{Fits, Holds, Plays, Sound}
-use Rattle.sim_session_laws.proofs.Common.{[], after_steps, All-nil, and_from, and_parts, and_right, ap, append-nil, append_assoc, arith, asked, begun, Bool}
+use Rattle.{sim_plain.proofs.Calm.{in_waits_not, Stay, waits_is}, sim_session_laws.proofs.Basics.{Fits, Holds, Plays, Sound}}
+use Rattle.sim_session_laws.proofs.Common.{after_steps, All-nil, and_from, and_parts, and_right, ap, append-nil, append_assoc, arith, asked, begun, Bool}
 use Rattle.sim_session_laws.proofs.Common.{cases_eq, client_of, cond-false, cond-true, cut, cut_posts, donor, Down, eq-eqb, false, filter, if◌then◌else◌, In}
 use Rattle.sim_session_laws.proofs.Common.{inl, inr, is_active, is_client, is_in, IsItemOf, IsOrderOf, Joining, le-leb, leaves, leb-true, List, map, min}
 use Rattle.sim_session_laws.proofs.Common.{nat_le, nat_lt, ne_eqb, None, Off, On, opened, opening, Option, Out, Past, Phase, put_other, put_same, raised, refl}
 use Rattle.sim_session_laws.proofs.Common.{release, reseated, rules_of, seat, Server, Session, session, Setup, Some, Status, Step, stepped, stepped_by, subst}
-use Rattle.sim_session_laws.proofs.Common.{sym, true, true≢false, Up, up_to, Waiting, waits_for, with_status, ℕ, ◌++◌, ◌∙◌, ◌∷◌, ◌≡◌, ◌≤◌, ◌⊎◌}
-use Rattle.sim_session_laws.proofs.ServerLemmas.{IsQuiet, quiet_asks, quiet_none, release_is, Told, told_quiet, told_raised}
+use Rattle.sim_session_laws.proofs.Common.{sym, true, true≢false, Up, up_to, Waiting, waits_for, with_status, ℕ, [], ◌++◌, ◌∙◌, ◌∷◌, ◌≡◌, ◌≤◌, ◌⊎◌}
 use Rattle.sim_session_laws.proofs.ServerLemmas.{fits_as, fits_goes, fits_told, Goes, goes_one, holds_bend, holds_down, holds_join, holds_order, holds_play}
+use Rattle.sim_session_laws.proofs.ServerLemmas.{IsQuiet, quiet_asks, quiet_none, release_is, Told, told_quiet, told_raised}
 use Rattle.sim_session_laws.proofs.UpSteps.{donor_in, holds_up, ins_high, sound_raised, sound_status}
 
 -- ---- the statuses after the cut

@@ -4,20 +4,19 @@ use Rattle.sim_plain.specs.declared.message.UpOf.TheVariants as up
 use Rattle.sim_base.specs.declared.step.Step.TheVariants as step
 use Rattle.sim_plain.proofs.Final.{raised_more}
 use Rattle.sim_session_laws.proofs.Basics.{Fits, good_behind, good_down, good_up, GoodDowns, GoodPast, GoodUps, Grows, grows_same, Holds, IsGoodDown, IsGoodUp}
-use Rattle.sim_session_laws.proofs.Common.{Arrival, Carries, eqb-true, inr, IsSetup, Joining, OffIsOut, refused, reported, rules_of, Session, session, turns_in}
-use Rattle.sim_session_laws.proofs.Common.{Behind, digest, DownOf, is_out, IsPast, leaves, length, nat_le, nat_lt, OnIsIn, opened, spelled, stepped, Waiting, ℕ}
-use Rattle.sim_session_laws.proofs.Common.{Bool, Down, Fact, GoOn, List, None, Past, refl, rises, Seat, seat, Setup, Some, Step, subst, true, ◌&&◌, ◌++◌, ◌==◌}
-use Rattle.sim_session_laws.proofs.Common.{PlayerCommand, StateHasDone, UnbentAreKept, if◌then◌else◌, report_fault}
-use Rattle.sim_session_laws.proofs.Common.{[], after_steps, carry_down, commands_at, crowd_fault, done_fault, entry_done, takes_state, UnbentAgree, with_status}
-use Rattle.sim_session_laws.proofs.Common.{after, arith, donor, falls, false, Heard, heard, is_by, is_in, keeps, Option, Phase, raised, Server, Status, unless}
-use Rattle.sim_session_laws.proofs.Common.{after_counts_turns, Always, ComingAreAboveRelease, HeardBytesSpellAState, KnownAndComingAreKept, ReleasesAreReleased}
-use Rattle.sim_session_laws.proofs.Common.{after_is_valid, command_fault, Cut, DonesAreTurns, StampsAreTurns, StatesHaveTurns, StrangersAreOut, WaitingHasDonor}
-use Rattle.sim_session_laws.proofs.Common.{after_steps-append, BehindStateAreKept, CarriedAreReleased, KeptAreOfPlayers, KnownAreOfPlayers, NoneBehindRelease}
-use Rattle.sim_session_laws.proofs.Common.{and_parts, DonesAreCounted, NoStateIsRefused, ReleasedAreFinal, ReleasedAreTurns, ReleasedOnlyRise, TurnsAreReleased}
-use Rattle.sim_session_laws.proofs.Common.{ap, In, map, Off, On, Out, put, suc, sym, Up, ◌+◌, ◌<◌, ◌∙◌, ◌∷◌, ◌≡◌, ◌≤◌}
-use Rattle.sim_session_laws.proofs.Common.{client_of, count_by, dones_in, DonesGoOn, InHasState, inl, is_client, kept_turns, least_done, OutHasWish, stepped_by}
-use Rattle.sim_session_laws.proofs.{Basics.Loads, Basics.Plays, Basics.Waits, Basics.lower, Common.DonesAreNear, Common.KeptAreTurns, Common.PastsAreValid}
-use Rattle.sim_session_laws.proofs.{CutSteps.holds_session, CutSteps.holds_stepped, PlaysLemmas.keeps_final}
+use Rattle.sim_session_laws.proofs.{Basics.{Loads, lower, Plays, Waits}, Common.{after, after_counts_turns, after_is_valid, after_steps, after_steps-append}}
+use Rattle.sim_session_laws.proofs.Common.{Always, and_parts, ap, arith, Arrival, Behind, BehindStateAreKept, Bool, CarriedAreReleased, Carries, carry_down}
+use Rattle.sim_session_laws.proofs.Common.{client_of, ComingAreAboveRelease, command_fault, commands_at, count_by, crowd_fault, Cut, digest, done_fault}
+use Rattle.sim_session_laws.proofs.Common.{dones_in, DonesAreCounted, DonesAreNear, DonesAreTurns, DonesGoOn, donor, Down, DownOf, entry_done, eqb-true, Fact}
+use Rattle.sim_session_laws.proofs.Common.{falls, false, GoOn, Heard, heard, HeardBytesSpellAState, if◌then◌else◌, In, InHasState, inl, inr, is_by, is_client}
+use Rattle.sim_session_laws.proofs.Common.{is_in, is_out, IsPast, IsSetup, Joining, keeps, kept_turns, KeptAreOfPlayers, KeptAreTurns, KnownAndComingAreKept}
+use Rattle.sim_session_laws.proofs.Common.{KnownAreOfPlayers, least_done, leaves, length, List, map, nat_le, nat_lt, None, NoneBehindRelease, NoStateIsRefused}
+use Rattle.sim_session_laws.proofs.Common.{Off, OffIsOut, On, OnIsIn, opened, Option, Out, OutHasWish, Past, PastsAreValid, Phase, PlayerCommand, put, raised}
+use Rattle.sim_session_laws.proofs.Common.{refl, refused, ReleasedAreFinal, ReleasedAreTurns, ReleasedOnlyRise, ReleasesAreReleased, report_fault, reported}
+use Rattle.sim_session_laws.proofs.Common.{rises, rules_of, Seat, seat, Server, Session, session, Setup, Some, spelled, StampsAreTurns, StateHasDone}
+use Rattle.sim_session_laws.proofs.Common.{StatesHaveTurns, Status, Step, stepped, stepped_by, StrangersAreOut, subst, suc, sym, takes_state, true, turns_in}
+use Rattle.sim_session_laws.proofs.Common.{TurnsAreReleased, UnbentAgree, UnbentAreKept, unless, Up, Waiting, WaitingHasDonor, with_status, ℕ, [], ◌&&◌, ◌++◌}
+use Rattle.sim_session_laws.proofs.{Common.{◌+◌, ◌<◌, ◌==◌, ◌∙◌, ◌∷◌, ◌≡◌, ◌≤◌}, CutSteps.{holds_session, holds_stepped}, PlaysLemmas.keeps_final}
 
 -- a client that is on is in, and plays
 abbrev pub OnIs : Setup → Server → Status → Seat → List Up → List Down → Type 0

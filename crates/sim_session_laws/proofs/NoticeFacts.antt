@@ -1,11 +1,10 @@
 -- What a notice shows.
 use Rattle.sim_plain.specs.declared.message.UpOf.TheVariants as up
-use Rattle.sim_plain.specs.Server.{report_of}
-use Rattle.sim_session_laws.proofs.Common.{Cut, differs, eqb-true, false, filter, first_mark, full_is_digest, Heard, if◌then◌else◌, inl, inr, is_accepted}
-use Rattle.sim_session_laws.proofs.Common.{[], All, All-append, All-cons, All-head, All-nil, All-tail, ap, Arrival, Bool, bytes_eq, bytes_eq-Decides, Carries}
-use Rattle.sim_session_laws.proofs.Common.{is_full_turn, List, map, None, NoticesShowDifferences, Option, others_are_quick, Past, refl, Report, reports, Rules}
-use Rattle.sim_session_laws.proofs.Common.{rules_of, server_after, session, Setup, Some, Step, subst, sym, true, WasMark, WereApart, ℕ, ◌==◌, ◌∙◌, ◌∷◌, ◌≡◌}
-use Rattle.sim_session_laws.proofs.Reporting.{Arrives, marks_of_session, one_of_all}
+use Rattle.{sim_plain.specs.Server.report_of, sim_session_laws.proofs.Common.{All, All-append, All-cons, All-head, All-nil, All-tail, ap, Arrival, Bool}}
+use Rattle.sim_session_laws.proofs.Common.{bytes_eq, bytes_eq-Decides, Carries, Cut, differs, eqb-true, false, filter, first_mark, full_is_digest, Heard}
+use Rattle.sim_session_laws.proofs.Common.{if◌then◌else◌, inl, inr, is_accepted, is_full_turn, List, map, None, NoticesShowDifferences, Option}
+use Rattle.sim_session_laws.proofs.Common.{others_are_quick, Past, refl, Report, reports, Rules, rules_of, server_after, session, Setup, Some, Step, subst, sym}
+use Rattle.sim_session_laws.proofs.{Common.{true, WasMark, WereApart, ℕ, [], ◌==◌, ◌∙◌, ◌∷◌, ◌≡◌}, Reporting.{Arrives, marks_of_session, one_of_all}}
 
 -- what a report in a list of reports says
 abbrev IsReported : (ℕ → ℕ → List ℕ → Type 0) → Report → Type 0

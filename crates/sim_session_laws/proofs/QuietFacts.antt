@@ -1,11 +1,10 @@
 -- Where nobody is bent, no report differs from the first of its turn.
 use Rattle.sim_plain.specs.declared.message.UpOf.TheVariants as up
 use Rattle.sim_plain.specs.Server.{report_of}
-use Rattle.sim_session_laws.proofs.Common.{NoticesNeedBends, Option, Past, refl, Report, reports, Rules, rules_of, Server, server_after, session, Setup, Some}
-use Rattle.sim_session_laws.proofs.Common.{[], All, All-append, All-cons, All-head, All-nil, All-tail, All-weaker, ap, Arrival, Bool, bytes_eq-Decides, Cut}
+use Rattle.sim_session_laws.proofs.Common.{All, All-append, All-cons, All-head, All-nil, All-tail, All-weaker, ap, Arrival, Bool, bytes_eq-Decides, Cut}
 use Rattle.sim_session_laws.proofs.Common.{differs, eqb-true, false, filter, first_mark, Heard, if◌then◌else◌, is_accepted, List, map, None, not}
-use Rattle.sim_session_laws.proofs.Common.{sym, true, ℕ, ◌==◌, ◌∙◌, ◌∷◌, ◌≡◌}
-use Rattle.sim_session_laws.proofs.Straight.{IsStraightArrival, mark_at, straight_session}
+use Rattle.sim_session_laws.proofs.Common.{NoticesNeedBends, Option, Past, refl, Report, reports, Rules, rules_of, Server, server_after, session, Setup, Some}
+use Rattle.sim_session_laws.proofs.{Common.{sym, true, ℕ, [], ◌==◌, ◌∙◌, ◌∷◌, ◌≡◌}, Straight.{IsStraightArrival, mark_at, straight_session}}
 
 -- a report says what all of its turn say
 abbrev Agrees : Setup → Server → Report → Type 0

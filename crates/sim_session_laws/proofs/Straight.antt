@@ -2,18 +2,17 @@
 use Rattle.sim_base.specs.declared.step.Step.TheVariants as step
 use Rattle.sim_plain.specs.declared.message.DownOf.TheVariants as down
 use Rattle.sim_plain.specs.declared.message.UpOf.TheVariants as up
-use Rattle.sim_session_laws.proofs.Common.{Arrival, arrives, asked, begun, Bool, client_of, Command, command_fault, Cut, cut, differs, done_fault, donor, Down}
-use Rattle.sim_session_laws.proofs.Common.{Phase, played, PlayerCommand, plays, Posts, posts, put, put_same, raised, refl, refusal, refused, release}
-use Rattle.sim_session_laws.proofs.Common.{[], Acted, acts, after, after_steps, All, All-append, All-cons, All-head, All-nil, All-tail, All-weaker, ap, arith}
-use Rattle.sim_session_laws.proofs.Common.{entry_done, falls, false, filter, Heard, heard, hears, idle, if◌then◌else◌, In, is_active, is_bend, is_client, is_in}
-use Rattle.sim_session_laws.proofs.Common.{is_out, is_unbent, Joining, joins, kept_above, kept_turns, learns, leaves, List, loading, map, mark, mark_of}
-use Rattle.sim_session_laws.proofs.Common.{may_order, may_play, may_tell_done, min, nat_lt, nobody, None, Off, On, opened, Option, ordered, orders, Out, Past}
-use Rattle.sim_session_laws.proofs.Common.{report_fault, report_of, rises, rules_of, Seat, Server, Session, session, Setup, Some, Status, Step, stepped}
-use Rattle.sim_session_laws.proofs.Common.{stepped_by, subst, suc, sym, takes_state, to_all, to_one, told, told_alone, told_with_done, true, turns_in, Up}
-use Rattle.sim_session_laws.proofs.Common.{◌&&◌, ◌++◌, ◌+◌, ◌-◌, ◌==◌, ◌∙◌, ◌∷◌, ◌≡◌, ◌≤◌}
+use Rattle.sim_session_laws.proofs.{Basics.{Holds, kept_turns_final}, Common.{Acted, acts, after, after_steps, All, All-append, All-cons, All-head, All-nil}}
+use Rattle.sim_session_laws.proofs.Common.{All-tail, All-weaker, ap, arith, Arrival, arrives, asked, begun, Bool, client_of, Command, command_fault, Cut, cut}
+use Rattle.sim_session_laws.proofs.Common.{differs, done_fault, donor, Down, entry_done, falls, false, filter, Heard, heard, hears, idle, if◌then◌else◌, In}
+use Rattle.sim_session_laws.proofs.Common.{is_active, is_bend, is_client, is_in, is_out, is_unbent, Joining, joins, kept_above, kept_turns, learns, leaves}
+use Rattle.sim_session_laws.proofs.Common.{List, loading, map, mark, mark_of, may_order, may_play, may_tell_done, min, nat_lt, nobody, None, Off, On, opened}
+use Rattle.sim_session_laws.proofs.Common.{Option, ordered, orders, Out, Past, Phase, played, PlayerCommand, plays, Posts, posts, put, put_same, raised, refl}
+use Rattle.sim_session_laws.proofs.Common.{refusal, refused, release, report_fault, report_of, rises, rules_of, Seat, Server, Session, session, Setup, Some}
+use Rattle.sim_session_laws.proofs.Common.{Status, Step, stepped, stepped_by, subst, suc, sym, takes_state, to_all, to_one, told, told_alone, told_with_done}
+use Rattle.sim_session_laws.proofs.Common.{true, turns_in, Up, up_to, waits_for, with_status, zero, ℕ, [], ◌&&◌, ◌++◌, ◌+◌, ◌-◌, ◌==◌, ◌∙◌, ◌∷◌, ◌≡◌, ◌≤◌}
+use Rattle.sim_session_laws.proofs.{CutSteps.{holds_opened, holds_stepped}, Fitting.{dones_are_turns, good_on, Grown, heard_grows}}
 use Rattle.sim_session_laws.proofs.ServerLemmas.{holds_down, holds_join, holds_order, holds_play}
-use Rattle.sim_session_laws.proofs.{Basics.Holds, Basics.kept_turns_final, Common.up_to, Common.waits_for, Common.with_status, Common.zero, Common.ℕ}
-use Rattle.sim_session_laws.proofs.{CutSteps.holds_opened, CutSteps.holds_stepped, Fitting.Grown, Fitting.dones_are_turns, Fitting.good_on, Fitting.heard_grows}
 
 -- what a report of a turn says where nobody was bent
 abbrev pub mark_at : Setup → Server → ℕ → List ℕ

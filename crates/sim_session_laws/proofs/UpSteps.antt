@@ -1,17 +1,16 @@
 -- The server hears what a client says.
 use Rattle.sim_plain.specs.declared.message.DownOf.TheVariants as down
 use Rattle.sim_plain.specs.declared.message.UpOf.TheVariants as up
-use Rattle.sim_plain.proofs.Calm.{least_in_is, Stay, stay_put, waits_is}
-use Rattle.sim_session_laws.proofs.Basics.{all_players_append, Fits, GoodPast, GoodUps, Holds, player_is, Plays, plays_begun, Sound}
-use Rattle.sim_session_laws.proofs.Common.{Heard, heard, if◌then◌else◌, In, inl, inr, is_by, is_client, is_in, is_out, IsOrderOf, Joining, keeps, kept_above}
-use Rattle.sim_session_laws.proofs.Common.{PlayerCommand, put, put_other, put_same, raised, refl, refusal, release, report_fault, reported, rises, rules_of}
-use Rattle.sim_session_laws.proofs.Common.{Seat, seat, Server, Session, Setup, Some, Status, subst, suc, sym, taken, takes_state, to_one, true, true≢false}
-use Rattle.sim_session_laws.proofs.Common.{[], AllPlayers, and_from, and_parts, ap, append-nil, arith, arrives, asked, begun, Bool, cases_eq, Command}
-use Rattle.sim_session_laws.proofs.Common.{command_fault, cond-false, cond-true, count_by, crowd_fault, done_fault, donor, Down, entry_done, eq-eqb, false}
-use Rattle.sim_session_laws.proofs.Common.{le-leb, leb-true, List, loading, nat_le, nat_lt, ne_eqb, nobody, None, Off, On, Option, Out, Past, Phase}
-use Rattle.sim_session_laws.proofs.Common.{turn_fault, turns_in, unless, Up, Waiting, with_status, ℕ, ◌&&◌, ◌++◌, ◌+◌, ◌-◌, ◌==◌, ◌∙◌, ◌∷◌, ◌≡◌, ◌≤◌, ◌⊎◌}
-use Rattle.sim_session_laws.proofs.ServerLemmas.{IsQuiet, quiet_asks, quiet_none, raised_bound, told_quiet, told_raised}
-use Rattle.sim_session_laws.proofs.ServerLemmas.{fits_as, fits_goes, Goes, goes_command, goes_join_again, goes_nothing, goes_one, goes_report, goes_state}
+use Rattle.{sim_plain.proofs.Calm.{least_in_is, Stay, stay_put, waits_is}, sim_session_laws.proofs.Basics.{all_players_append, Fits, GoodPast, GoodUps, Holds}}
+use Rattle.sim_session_laws.proofs.{Basics.{player_is, Plays, plays_begun, Sound}, Common.{AllPlayers, and_from, and_parts, ap, append-nil, arith, arrives}}
+use Rattle.sim_session_laws.proofs.Common.{asked, begun, Bool, cases_eq, Command, command_fault, cond-false, cond-true, count_by, crowd_fault, done_fault}
+use Rattle.sim_session_laws.proofs.Common.{donor, Down, entry_done, eq-eqb, false, Heard, heard, if◌then◌else◌, In, inl, inr, is_by, is_client, is_in, is_out}
+use Rattle.sim_session_laws.proofs.Common.{IsOrderOf, Joining, keeps, kept_above, le-leb, leb-true, List, loading, nat_le, nat_lt, ne_eqb, nobody, None, Off}
+use Rattle.sim_session_laws.proofs.Common.{On, Option, Out, Past, Phase, PlayerCommand, put, put_other, put_same, raised, refl, refusal, release, report_fault}
+use Rattle.sim_session_laws.proofs.Common.{reported, rises, rules_of, Seat, seat, Server, Session, Setup, Some, Status, subst, suc, sym, taken, takes_state}
+use Rattle.sim_session_laws.proofs.Common.{to_one, true, true≢false, turn_fault, turns_in, unless, Up, Waiting, with_status, ℕ, [], ◌&&◌, ◌++◌, ◌+◌, ◌-◌, ◌==◌}
+use Rattle.sim_session_laws.proofs.{Common.{◌∙◌, ◌∷◌, ◌≡◌, ◌≤◌, ◌⊎◌}, ServerLemmas.{fits_as, fits_goes, Goes, goes_command, goes_join_again, goes_nothing}}
+use Rattle.sim_session_laws.proofs.ServerLemmas.{goes_one, goes_report, goes_state, IsQuiet, quiet_asks, quiet_none, raised_bound, told_quiet, told_raised}
 
 -- ---- what stays sound
 

@@ -2,12 +2,11 @@
 use Rattle.sim_plain.specs.declared.message.DownOf.TheVariants as down
 use Rattle.sim_plain.specs.declared.message.UpOf.TheVariants as up
 use Rattle.sim_base.specs.declared.{command.PlayerCommand.PlayerCommand, setup.Setup.Setup, state.State.State, step.Step.Step}
-use Rattle.sim_base.specs.{Limits.IsSetup, Limits.IsValid, Spelling.digest, Spelling.spelling, Turn.Past, Turn.after, Turn.turns_in}
-use Rattle.sim_plain.specs.declared.{message.DownOf.DownOf, status.Status.TheVariants.In, status.Status.TheVariants.Out, status.Status.TheVariants.Waiting}
-use Rattle.sim_plain_session.specs.Sessions.{Carries, Session, downs_of, session}
-use Rattle.sim_plain_session.specs.{Clients.Down, Clients.Joining, Clients.Off, Clients.On, Clients.Seat, Clients.Up, Clients.orders, Pasts.is_client}
-use Rattle.std.specs.Prelude.{All, List, [], false, if◌then◌else◌, length, suc, true, ℕ, ◌++◌, ◌+◌, ◌<◌, ◌==◌, ◌∷◌, ◌≡◌, ◌≤◌, ◌⊎◌}
-use Rattle.{sim_laws.specs.TurnLaws.IsOrderOf, sim_plain.specs.Server.is_in, sim_plain_session.specs.Pasts.is_unbent, sim_plain_session.specs.Pasts.kept_turns}
+use Rattle.{sim_base.specs.{Limits.{IsSetup, IsValid}, Spelling.{digest, spelling}, Turn.{after, Past, turns_in}}, sim_laws.specs.TurnLaws.IsOrderOf}
+use Rattle.sim_plain.specs.{declared.{message.DownOf.DownOf, status.Status.TheVariants.{In, Out, Waiting}}, Server.is_in}
+use Rattle.sim_plain_session.specs.{Clients.{Down, Joining, Off, On, orders, Seat, Up}, Pasts.{is_client, is_unbent, kept_turns}}
+use Rattle.sim_plain_session.specs.Sessions.{Carries, downs_of, Session, session}
+use Rattle.std.specs.Prelude.{All, false, if◌then◌else◌, length, List, suc, true, ℕ, [], ◌++◌, ◌+◌, ◌<◌, ◌==◌, ◌∷◌, ◌≡◌, ◌≤◌, ◌⊎◌}
 
 -- What lies in the pipes of a session.
 

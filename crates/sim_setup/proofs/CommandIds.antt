@@ -1,10 +1,9 @@
 -- A command that is read names few entities, whatever its kind.
 use Rattle.sim_base.specs.declared.command.Command.TheVariants.{Attack, Delete, Place, Resign, Stop, Train, Walk}
-use Rattle.sim_json.{proofs.Readers.map_some, specs.Commands.three, specs.Commands.train_from, specs.Commands.walk_from}
-use Rattle.sim_json.specs.Commands.{attack_from, command_by, delete_from, id_in, ids_from, ids_of, place_from, point_of, resign_from, stop_from, template_in}
-use Rattle.sim_setup.proofs.Common.{arith, as_str, Command, command_of, Data, HasFewIds, leb-true, list_of, next_some, numbered-length, numbered_from_records}
-use Rattle.sim_setup.proofs.Common.{records, subst, then_some, two}
-use Rattle.sim_setup.proofs.Common.{◌≡◌, ℕ, ◌≤◌, Bool, true, false, List, [], ◌∷◌, length, if◌then◌else◌, nat_le, Some, codes, bytes_eq, Option, and_then_some}
+use Rattle.sim_json.{proofs.Readers.map_some, specs.Commands.{attack_from, command_by, delete_from, id_in, ids_from, ids_of, place_from, point_of, resign_from}}
+use Rattle.{sim_json.specs.Commands.{stop_from, template_in, three, train_from, walk_from}, sim_setup.proofs.Common.{and_then_some, arith, as_str, Bool}}
+use Rattle.sim_setup.proofs.Common.{bytes_eq, codes, Command, command_of, Data, false, HasFewIds, if◌then◌else◌, leb-true, length, List, list_of, nat_le}
+use Rattle.sim_setup.proofs.Common.{next_some, numbered-length, numbered_from_records, Option, records, Some, subst, then_some, true, two, ℕ, [], ◌∷◌, ◌≡◌, ◌≤◌}
 
 ids_of-few : (d : Data) (ids : List ℕ) → ids_of d ≡ Some ids → length ids ≤ 256
 ids_of-few d ids e =

@@ -1,12 +1,11 @@
 -- What holds of the commands of a match file.
-use Rattle.sim_setup.proofs.Common.{[], All, All-cons, and_then_some, ap, arith, Bool, Command, command_of, crowd, Data, eq-eqb, falls_at, false, HasFewIds}
-use Rattle.sim_setup.proofs.Common.{if_some, if◌then◌else◌, inl, inr, is_given, IsFrom, length, List, list_of, map, nat_lt, natural_in, natural_in-within}
-use Rattle.sim_setup.proofs.Common.{next_some, None, numbered, numbered-keeps, Ok, option_and_then, refl, slice_index, Some, subst, suc, sym, Tallies, Timed}
-use Rattle.sim_setup.proofs.Common.{timed_of, true, zero, ℕ, ◌&&◌, ◌++◌, ◌+◌, ◌<◌, ◌==◌, ◌∙◌, ◌∷◌, ◌≡◌, ◌≤◌, ◌⊎◌}
-use Rattle.std.proofs.Common.{add-zero, cond, count_by, eqb-true, get_or, get_or-set_other, get_or-set_same, length-set, lt-ltb, replicate, set, ◌*◌}
-use Rattle.std.proofs.lemmas.{Bool.and_parts, Bool.cases_eq, Bool.false_from_ne_true, Bool.ltb-false, Bool.ltb-true, List.Sums.sum_by-append}
-use Rattle.{sim_json.specs.Values.front_two, sim_setup.proofs.CommandIds.command_of-few, sim_setup.specs.Crowds.Counts, sim_setup.specs.Crowds.timed}
-use Rattle.{sim_setup.specs.Setups.timed_from, std.specs.List.Sorted.IsNonDecreasing, std.specs.List.sum_by}
+use Rattle.{sim_json.specs.Values.front_two, sim_setup.proofs.{CommandIds.command_of-few, Common.{All, All-cons, and_then_some, ap, arith, Bool, Command}}}
+use Rattle.sim_setup.proofs.Common.{command_of, crowd, Data, eq-eqb, falls_at, false, HasFewIds, if_some, if◌then◌else◌, inl, inr, is_given, IsFrom, length}
+use Rattle.sim_setup.proofs.Common.{List, list_of, map, nat_lt, natural_in, natural_in-within, next_some, None, numbered, numbered-keeps, Ok, option_and_then}
+use Rattle.sim_setup.proofs.Common.{refl, slice_index, Some, subst, suc, sym, Tallies, Timed, timed_of, true, zero, ℕ, [], ◌&&◌, ◌++◌, ◌+◌, ◌<◌, ◌==◌, ◌∙◌, ◌∷◌}
+use Rattle.{sim_setup.{proofs.Common.{◌≡◌, ◌≤◌, ◌⊎◌}, specs.{Crowds.{Counts, timed}, Setups.timed_from}}, std.proofs.Common.{add-zero, cond, count_by}}
+use Rattle.std.proofs.{Common.{eqb-true, get_or, get_or-set_other, get_or-set_same, length-set, lt-ltb, replicate, set, ◌*◌}, lemmas.Bool.and_parts}
+use Rattle.std.{proofs.lemmas.{Bool.{cases_eq, false_from_ne_true, ltb-false, ltb-true}, List.Sums.sum_by-append}, specs.List.{Sorted.IsNonDecreasing, sum_by}}
 
 -- The table of counts, one more command at a time.
 

@@ -1,10 +1,9 @@
 -- Worked examples of templates, computed from the definitions.
-use Rattle.serde_json.specs.Data.{member, no_members, null, object, string}
-use Rattle.sim_setup.proofs.Common.{[], after, codes, Err, List, Node, None, Ok, Option, Origin, refl, roots_of, Some, source_of, Template, template_at}
-use Rattle.sim_setup.proofs.Common.{template_in, templates_from, ℕ, ◌∷◌, ◌≡◌}
-use Rattle.sim_tree.specs.{Nodes.source_in, Trees.child, Trees.no_children, Trees.node, declared.tree.TreeMark.TheVariants.Mul, declared.tree.TreeMark.TreeMark}
+use Rattle.{serde_json.specs.Data.{member, no_members, null, object, string}, sim_merge.specs.{Overlay.text_by, Resolution.members}}
+use Rattle.sim_setup.proofs.Common.{after, codes, Err, List, Node, None, Ok, Option, Origin, refl, roots_of, Some, source_of, Template, template_at}
+use Rattle.sim_setup.{proofs.Common.{template_in, templates_from, ℕ, [], ◌∷◌, ◌≡◌}, specs.Refusals.{refusal, sources_from}}
+use Rattle.sim_tree.specs.{declared.tree.TreeMark.{TheVariants.Mul, TreeMark}, Nodes.source_in, Trees.{child, no_children, node}}
 use Rattle.std.{proofs.Common.pos, specs.Fmt.digits}
-use Rattle.{sim_merge.specs.Overlay.text_by, sim_merge.specs.Resolution.members, sim_setup.specs.Refusals.refusal, sim_setup.specs.Refusals.sources_from}
 
 -- a part with one child
 abbrev part : List ℕ → List ℕ → Option TreeMark → List ℕ → Node

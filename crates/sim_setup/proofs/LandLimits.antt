@@ -1,24 +1,21 @@
 -- What holds of the land of a match file.
-use Rattle.md5.specs.Md5.{digest_bytes, md5}
-use Rattle.sim_base.specs.declared.{place.Point.Point, place.Rect.Rect, setup.Setup.Setup}
-use Rattle.sim_base.specs.{Limits.IsClosed, Limits.IsFirst, Limits.IsMask, Limits.IsSetup, Limits.IsTimed, Places.is_inside, Rows.size_of}
-use Rattle.sim_json.{proofs.Readers.else_some, proofs.Readers.natural_at-within, specs.Values.natural, specs.Values.natural_at, specs.Values.value_of}
-use Rattle.sim_setup.proofs.Common.{IsFrom, IsLand, eq-eqb, if_some, land_in, length, list_at, list_of, mask_of, name_in, nat_le, records, rect_of, timed_of, ℕ}
-use Rattle.sim_setup.proofs.Common.{[], All, ap, Err, inl, inr, Ok, Some, sym, true, two, ◌&&◌, ◌++◌, ◌+◌, ◌<◌, ◌==◌, ◌^◌, ◌∙◌, ◌∷◌, ◌≡◌, ◌≢◌, ◌≤◌, ◌⊎◌}
-use Rattle.sim_setup.proofs.Common.{after, arith, codes, Data, First, four, Land, List, Meets, nat_lt, Node, None, Option, Origin, refl, Result, subst, Timed}
-use Rattle.sim_setup.proofs.Common.{and_parts, bytes_eq, falls_at, first_of, leb-true, mask_from, names_in, next_some, numbered, roots_of, setup_of, then_some}
-use Rattle.sim_setup.proofs.Common.{and_then_some, natural_in-within, numbered-keeps, numbered-length, numbered_from_records, option_and_then, templates_from}
-use Rattle.sim_setup.proofs.Common.{are_distinct, as_str, IsTemplate, length-map, length_push, natural_in, next_template, numbered-All, slice_index, true≢false}
-use Rattle.sim_setup.proofs.{CommandLimits.in_order-IsNonDecreasing, CommandLimits.timed_of-is, CommandLimits.timeds-not_crowded, TemplateLimits.names-differ}
-use Rattle.sim_setup.specs.Refusals.{coded, need, Refusal, sources_in, unless_at}
-use Rattle.sim_setup.specs.Setups.{closed_in, commands_in, enemy_in, entities_in, entities_within, few_sources, first_from, firsts_from, if_inside, in_order}
-use Rattle.sim_setup.specs.Setups.{items_in, limits_in, lists_in, masks_from, masks_in, misplaced, number_of, players_of, point_of, rect_from, rect_on}
-use Rattle.sim_setup.specs.Setups.{rects_from, rules_in, setup_in, setup_with, size_from, size_in, timeds_from}
-use Rattle.sim_setup.specs.declared.{fault.SetupFault.SetupFault, ground.Size.Size, reading.Lists.Lists, rules.Rules.Rules}
-use Rattle.std.proofs.Common.{bit_or, EachIndex, IfOk, IsTrue, length-append, max, ◌-◌}
-use Rattle.std.proofs.lemmas.{Bool.and_from, Bool.cases_lt, Int.ints, List.Quantifiers.position-Some, List.get_or_append_left, Nat.Bits.bit_at-pow_other}
-use Rattle.std.proofs.lemmas.{Nat.Bits.bit_at-zero, Nat.Bits.bit_at_or, Nat.or_lt, Nat.pow_pos, Option.same_Some}
-use Rattle.std.{proofs.Math.Dec.leb-zero, proofs.Math.Pow.pow-lt, proofs.Math.Seq.get_or-append_seam, specs.Int.bit_at}
+use Rattle.{md5.specs.Md5.{digest_bytes, md5}, sim_base.specs.declared.{place.{Point.Point, Rect.Rect}, setup.Setup.Setup}}
+use Rattle.sim_base.specs.{Limits.{IsClosed, IsFirst, IsMask, IsSetup, IsTimed}, Places.is_inside, Rows.size_of}
+use Rattle.sim_json.{proofs.Readers.{else_some, natural_at-within}, specs.Values.{natural, natural_at, value_of}}
+use Rattle.sim_setup.proofs.{CommandLimits.{in_order-IsNonDecreasing, timed_of-is, timeds-not_crowded}, Common.{after, All, and_parts, and_then_some, ap}}
+use Rattle.sim_setup.proofs.Common.{are_distinct, arith, as_str, bytes_eq, codes, Data, eq-eqb, Err, falls_at, First, first_of, four, if_some, inl, inr, IsFrom}
+use Rattle.sim_setup.proofs.Common.{IsLand, IsTemplate, Land, land_in, leb-true, length, length-map, length_push, List, list_at, list_of, mask_from, mask_of}
+use Rattle.sim_setup.proofs.Common.{Meets, name_in, names_in, nat_le, nat_lt, natural_in, natural_in-within, next_some, next_template, Node, None, numbered}
+use Rattle.sim_setup.proofs.Common.{numbered-All, numbered-keeps, numbered-length, numbered_from_records, Ok, Option, option_and_then, Origin, records, rect_of}
+use Rattle.sim_setup.proofs.Common.{refl, Result, roots_of, setup_of, slice_index, Some, subst, sym, templates_from, then_some, Timed, timed_of, true}
+use Rattle.sim_setup.proofs.{Common.{true≢false, two, ℕ, [], ◌&&◌, ◌++◌, ◌+◌, ◌<◌, ◌==◌, ◌^◌, ◌∙◌, ◌∷◌, ◌≡◌, ◌≢◌, ◌≤◌, ◌⊎◌}, TemplateLimits.names-differ}
+use Rattle.sim_setup.specs.{declared.{fault.SetupFault.SetupFault, ground.Size.Size, reading.Lists.Lists, rules.Rules.Rules}, Refusals.{coded, need, Refusal}}
+use Rattle.sim_setup.specs.{Refusals.{sources_in, unless_at}, Setups.{closed_in, commands_in, enemy_in, entities_in, entities_within, few_sources, first_from}}
+use Rattle.sim_setup.specs.Setups.{firsts_from, if_inside, in_order, items_in, limits_in, lists_in, masks_from, masks_in, misplaced, number_of, players_of}
+use Rattle.sim_setup.specs.Setups.{point_of, rect_from, rect_on, rects_from, rules_in, setup_in, setup_with, size_from, size_in, timeds_from}
+use Rattle.std.proofs.{Common.{bit_or, EachIndex, IfOk, IsTrue, length-append, max, ◌-◌}, lemmas.{Bool.{and_from, cases_lt}, Int.ints, List.get_or_append_left}}
+use Rattle.std.proofs.lemmas.{List.Quantifiers.position-Some, Nat.{Bits.{bit_at-pow_other, bit_at-zero, bit_at_or}, or_lt, pow_pos}, Option.same_Some}
+use Rattle.std.{proofs.Math.{Dec.leb-zero, Pow.pow-lt, Seq.get_or-append_seam}, specs.Int.bit_at}
 
 -- What is known where a pass refuses nothing: no step of it has refused.
 

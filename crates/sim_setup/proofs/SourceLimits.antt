@@ -1,8 +1,7 @@
 -- What holds of the sources of a match file, in the words of the library.
-use Rattle.sim_setup.proofs.Common.{[], All, ap, IsReadySource, List, nat_le, Node, refl, Source, true, ◌∷◌, ◌≡◌}
-use Rattle.std.proofs.{Common.is_none, lemmas.Bool.and_from, lemmas.Bool.le-leb, lemmas.List.Elements.All-head, lemmas.List.Elements.All-tail}
-use Rattle.{sim_merge.specs.Libraries.is_layable, sim_merge.specs.Resolution.origins_of, sim_merge.specs.Resolution.roots_in, sim_setup.specs.Refusals.IsReady}
-use Rattle.{sim_tree.specs.Trees.is_sound, sim_tree.specs.Trees.levels, sim_tree.specs.Trees.mark_of, sim_tree.specs.Trees.node_of, std.specs.List.list_all}
+use Rattle.{sim_merge.specs.{Libraries.is_layable, Resolution.{origins_of, roots_in}}, sim_setup.proofs.Common.{All, ap, IsReadySource, List, nat_le, Node}}
+use Rattle.{sim_setup.{proofs.Common.{refl, Source, true, [], ◌∷◌, ◌≡◌}, specs.Refusals.IsReady}, sim_tree.specs.Trees.{is_sound, levels, mark_of, node_of}}
+use Rattle.std.{proofs.{Common.is_none, lemmas.{Bool.{and_from, le-leb}, List.Elements.{All-head, All-tail}}}, specs.List.list_all}
 
 ready_layable : (n : Node) → IsReady n → is_layable n ≡ true
 ready_layable n ready =

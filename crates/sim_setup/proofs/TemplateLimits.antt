@@ -1,13 +1,12 @@
 -- What holds of the templates of a match file.
-use Rattle.sim_setup.proofs.Common.{List, map, name_in, names_in, next_template, Node, numbered, numbered-keeps, Ok, Option, Origin, refl, Result, Some, subst}
-use Rattle.sim_setup.proofs.Common.{[], All, All-cons, and_parts, and_then_some, ap, are_distinct, arith, Bool, bytes_eq, Err, false, if◌then◌else◌, length}
-use Rattle.sim_setup.proofs.Common.{sym, Template, template_at, template_in, true, true≢false, ℕ, ◌&&◌, ◌++◌, ◌∙◌, ◌∷◌, ◌≡◌, ◌≢◌}
+use Rattle.sim_setup.proofs.Common.{All, All-cons, and_parts, and_then_some, ap, are_distinct, arith, Bool, bytes_eq, Err, false, if◌then◌else◌, length, List}
+use Rattle.sim_setup.proofs.Common.{map, name_in, names_in, next_template, Node, numbered, numbered-keeps, Ok, Option, Origin, refl, Result, Some, subst, sym}
+use Rattle.sim_setup.proofs.Common.{Template, template_at, template_in, true, true≢false, ℕ, [], ◌&&◌, ◌++◌, ◌∙◌, ◌∷◌, ◌≡◌, ◌≢◌}
+use Rattle.sim_traits.specs.declared.fault.TraitFault.{TheVariants.{Clash, UnknownPart}, TraitFault}
 use Rattle.sim_traits.specs.Values.{after, arms_in, attack_part, base_in, has_known_parts, health_in, health_part, motion_part, obstruct_part, part_of}
 use Rattle.sim_traits.specs.Values.{resist_in, resist_part, speed_in, template_of_parts, train_in, train_part, unarmoured}
-use Rattle.sim_traits.specs.declared.fault.TraitFault.{TheVariants.Clash, TheVariants.UnknownPart, TraitFault}
 use Rattle.std.proofs.Common.{AllPairs, is_some, not, slice_get, unwrap_or, ◌||◌}
-use Rattle.std.proofs.lemmas.{Bool.not-true, List.Kept.AllPairs-cons, List.map-append, Slice.Eq.bytes_eq-Decides}
-use Rattle.std.specs.{List.list_any, Result.result_ok}
+use Rattle.std.{proofs.lemmas.{Bool.not-true, List.{Kept.AllPairs-cons, map-append}, Slice.Eq.bytes_eq-Decides}, specs.{List.list_any, Result.result_ok}}
 
 -- ---- a template that is read
 

@@ -1,7 +1,6 @@
 -- How many commands each player has in each turn, as a table.
-use Rattle.sim_setup.specs.{Common.Command, Common.OutOfMemory, Common.Timed, Setups.crowd}
-use Rattle.std.specs.Prelude.{[], Bool, Err, false, length, List, nat_lt, None, Ok, Option, Result, slice_index, Some, true, ℕ, ◌*◌, ◌++◌, ◌+◌, ◌<◌, ◌∷◌, ◌≡◌}
-use Rattle.std.specs.Prelude.{◌≤◌}
+use Rattle.{sim_setup.specs.{Common.{Command, OutOfMemory, Timed}, Setups.crowd}, std.specs.Prelude.Bool}
+use Rattle.std.specs.Prelude.{Err, false, length, List, nat_lt, None, Ok, Option, Result, slice_index, Some, true, ℕ, [], ◌*◌, ◌++◌, ◌+◌, ◌<◌, ◌∷◌, ◌≡◌, ◌≤◌}
 
 -- a table has a count for Gaia and eight players in each turn
 abbrev pub place_of : ℕ → ℕ → ℕ

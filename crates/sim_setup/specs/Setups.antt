@@ -4,13 +4,11 @@ use Rattle.sim_setup.specs.Common.{are_distinct, as_str, command_of, command_tak
 use Rattle.sim_setup.specs.Common.{is_given, is_inside, is_list, is_missing, is_orphan, is_row_of, is_table, is_table_of, is_whole, IsLeast, Land, Laying}
 use Rattle.sim_setup.specs.Common.{layings, list_at, list_of, md5, members, MergeFault, names_in, natural, natural_at, natural_in, next_or, Node, numbered}
 use Rattle.sim_setup.specs.Common.{numbers, Origin, origins_of, other_key, parents_in, Point, records, Rect, result_ok, root_there, roots_in, row_limit, Setup}
-use Rattle.sim_setup.specs.Common.{size_of, Source, Template, template_in, Timed, two, value_of}
-use Rattle.sim_setup.specs.Refusals.{after, coded, need, Refusal, refusal, source_of, sources_in, unless_at}
-use Rattle.sim_setup.specs.declared.fault.SetupFault.{SetupFault, TheVariants.OutOfMemory, TheVariants.Refused}
-use Rattle.sim_setup.specs.declared.{ground.Size.Size, reading.Lists.Lists, rules.Rules.Rules}
-use Rattle.std.specs.Prelude.{Option, option_and_then, pos, position, Result, slice_get, Some, suc, true, Vec, zero, ℕ, ◌&&◌, ◌++◌, ◌+◌, ◌-◌, ◌<◌, ◌==◌, ◌^◌}
-use Rattle.std.specs.Prelude.{[], bit_or, Bool, codes, count_by, Err, false, filter_map, if◌then◌else◌, length, List, map, nat_le, nat_lt, None, not, Ok}
-use Rattle.std.specs.{Prelude.◌∷◌, Prelude.◌≡◌, Str.bytes_eq}
+use Rattle.sim_setup.specs.{Common.{size_of, Source, Template, template_in, Timed, two, value_of}, declared.fault.SetupFault.SetupFault}
+use Rattle.sim_setup.specs.declared.{fault.SetupFault.TheVariants.{OutOfMemory, Refused}, ground.Size.Size, reading.Lists.Lists, rules.Rules.Rules}
+use Rattle.{sim_setup.specs.Refusals.{after, coded, need, Refusal, refusal, source_of, sources_in, unless_at}, std.specs.Prelude.{bit_or, Bool, codes}}
+use Rattle.std.specs.Prelude.{count_by, Err, false, filter_map, if◌then◌else◌, length, List, map, nat_le, nat_lt, None, not, Ok, Option, option_and_then, pos}
+use Rattle.std.specs.{Prelude.{position, Result, slice_get, Some, suc, true, Vec, zero, ℕ, [], ◌&&◌, ◌++◌, ◌+◌, ◌-◌, ◌<◌, ◌==◌, ◌^◌, ◌∷◌, ◌≡◌}, Str.bytes_eq}
 
 -- The numbers that rule a match.
 

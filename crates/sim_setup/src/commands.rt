@@ -8,9 +8,8 @@ ghost use Rattle.sim_setup.specs.{Crowds.FindsTimed, Crowds.Tallies, Setups.time
 use crate::crowd::Crowd;
 use crate::fault::{SetupFault, refused};
 use serde_json::Value;
-use sim_base::{OutOfMemory, PlayerCommand, Timed, Timeds};
+use sim_base::{Global, OutOfMemory, PlayerCommand, Timed, Timeds};
 use sim_json::{command_of, front_two, list_of, natural_in};
-use std::alloc::Global;
 
 /// The commands, or the refusal of the first item that is none.
 pub fn timeds_from(

@@ -4,8 +4,7 @@
 ghost use Rattle.std.specs.Prelude.{◌≡◌, ◌≤◌, List, [], length, IfOk};
 ghost use Rattle.sim_setup.specs.{Common.Timed, Crowds.Counts, Crowds.Covers, Crowds.Tallies};
 
-use sim_base::OutOfMemory;
-use std::alloc::Global;
+use sim_base::{Global, OutOfMemory};
 use std::marker::Model;
 
 // A player may give so many commands in one turn.

@@ -7,10 +7,9 @@ ghost use Rattle.sim_setup.specs.Setups.{number_of as number_of_name, point_of a
 
 use crate::fault::{SetupFault, refused};
 use serde_json::Value;
-use sim_base::{First, Firsts, Fixed, Land, MAX_ROWS, Point};
+use sim_base::{First, Firsts, Fixed, Global, Land, MAX_ROWS, Point};
 use sim_json::{fixed, four, list_at, list_of, natural_in};
 use sim_merge::Library;
-use std::alloc::Global;
 
 /// The items of the list, where there are no more than a state may have entities.
 pub fn entities_in(value: &Value) -> Option<&[Value]>

@@ -7,9 +7,8 @@ ghost use Rattle.sim_setup.specs.{Common.list_at as list_at_key, Common.view, Se
 use crate::fault::SetupFault;
 use crate::players::masks_in;
 use serde_json::Value;
-use sim_base::{Land, OutOfMemory, Rect, Rects};
+use sim_base::{Global, Land, OutOfMemory, Rect, Rects};
 use sim_json::{four, list_at, list_of, natural, natural_in, two};
-use std::alloc::Global;
 
 /// The size of a ground in cells, each way from 1 to 256.
 #[derive(Clone, Copy, Debug, PartialEq, Eq)]

@@ -14,10 +14,9 @@ use crate::shape::misplaced;
 use crate::sources::sources_in;
 use md5::{Digest, Md5};
 use serde_json::Value;
-use sim_base::{Land, Setup};
+use sim_base::{Global, Land, Setup};
 use sim_json::value_of;
 use sim_tree::Source;
-use std::alloc::Global;
 
 /// The setup of the bytes of a match file, or the first code that refuses them, with the least index at which it
 /// applies.

@@ -5,9 +5,8 @@ ghost use Rattle.sim_setup.specs.Setups.{enemy_in as enemy_in_data, mask_from as
 ghost use Rattle.sim_setup.specs.{Common.list_at as list_at_key, Common.view, Setups.masks_in as masks_in_data};
 
 use serde_json::Value;
-use sim_base::{Ids, OutOfMemory};
+use sim_base::{Global, Ids, OutOfMemory};
 use sim_json::{list_at, list_of, natural_in};
-use std::alloc::Global;
 
 /// The masks of Gaia and the players, where there are 1 to 8 players and each has enemies alone that there are.
 pub fn masks_in(alloc: Global, value: &Value) -> Result<Option<Ids>, OutOfMemory>

@@ -13,10 +13,9 @@ use crate::rules::Rules;
 use crate::sources::are_few;
 use crate::templates::templates_from;
 use serde_json::Value;
-use sim_base::{Firsts, Land, Templates, Timeds};
+use sim_base::{Firsts, Global, Land, Templates, Timeds};
 use sim_json::list_at;
 use sim_tree::Source;
-use std::alloc::Global;
 
 /// The lists of a match, as a setup has them.
 #[derive(Debug, Drop)]

@@ -7,11 +7,10 @@ ghost use Rattle.sim_setup.specs.{Common.are_distinct, Common.names_in, Common.o
 
 use crate::fault::{SetupFault, refused};
 use serde_json::Value;
-use sim_base::OutOfMemory;
+use sim_base::{Global, OutOfMemory};
 use sim_json::list_at;
 use sim_merge::names_differ;
 use sim_tree::{Source, TreeFault};
-use std::alloc::Global;
 
 // Items are counted from here on, behind the places of the keys.
 const FIRST: usize = 16;

@@ -5,11 +5,10 @@ ghost use Rattle.sim_setup.specs.Common.{IsTemplate, names_in, origin_of, origin
 ghost use Rattle.sim_setup.specs.Setups.{Meets, template_at as template_at_number, templates_from as templates_from_sources};
 
 use crate::fault::{SetupFault, refused};
-use sim_base::{OutOfMemory, Template, Templates};
+use sim_base::{Global, OutOfMemory, Template, Templates};
 use sim_merge::Library;
 use sim_traits::{TraitFault, template_of};
 use sim_tree::Source;
-use std::alloc::Global;
 
 /// The templates of sources with this library, or the refusal of the first that is none.
 pub fn templates_from(

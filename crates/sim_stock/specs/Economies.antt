@@ -1,12 +1,11 @@
 -- The economy of a match that bytes spell, or the number of what is refused.
-use Rattle.sim_json.specs.{Commands.next_or, Commands.numbered, Commands.records, Keys.other_key, Values.front_two, Values.list_at, Values.list_of}
-use Rattle.sim_stock.specs.declared.{amounts.NamedRate.NamedRate, deed.DatedDeed.DatedDeed, deed.Deed.Deed, deed.Deed.TheVariants.Barter}
-use Rattle.sim_stock.specs.declared.{deed.Deed.TheVariants.Tribute, economy.Economy.Economy, rate.Rate.Rate, stocks.Stocks.Stocks}
-use Rattle.std.specs.Prelude.{[], All, Bool, codes, Err, find, fold, if◌then◌else◌, length, List, map, nat_le, None, Ok, Option, option_and_then, option_map}
-use Rattle.std.specs.Prelude.{position, Result, slice_get, slice_index, slice_set, Some, sum, unwrap_or, ℕ, ◌+◌, ◌-◌, ◌<◌, ◌==◌, ◌∷◌, ◌≢◌, ◌≤◌}
-use Rattle.std.specs.{List.Sorted.IsNonDecreasingBy, List.list_any, List.range_with_len, Str.bytes_eq}
-use Rattle.{serde_json.specs.Data.Data, serde_json.specs.Find.as_str, sim_base.specs.Limits.IsFrom, sim_base.specs.declared.setup.Setup.Setup}
-use Rattle.{sim_base.specs.declared.template.Template.Template, sim_json.specs.Values.natural_in, sim_json.specs.Values.two, sim_json.specs.Values.value_of}
+use Rattle.{serde_json.specs.{Data.Data, Find.as_str}, sim_base.specs.{declared.{setup.Setup.Setup, template.Template.Template}, Limits.IsFrom}}
+use Rattle.sim_json.specs.{Commands.{next_or, numbered, records}, Keys.other_key, Values.{front_two, list_at, list_of, natural_in, two, value_of}}
+use Rattle.sim_stock.specs.declared.{amounts.NamedRate.NamedRate, deed.{DatedDeed.DatedDeed, Deed.{Deed, TheVariants.{Barter, Tribute}}}}
+use Rattle.sim_stock.specs.declared.{economy.Economy.Economy, rate.Rate.Rate, stocks.Stocks.Stocks}
+use Rattle.std.specs.{List.{list_any, range_with_len, Sorted.IsNonDecreasingBy}, Prelude.All}
+use Rattle.std.specs.Prelude.{Bool, codes, Err, find, fold, if◌then◌else◌, length, List, map, nat_le, None, Ok, Option, option_and_then, option_map, position}
+use Rattle.std.specs.{Prelude.{Result, slice_get, slice_index, slice_set, Some, sum, unwrap_or, ℕ, [], ◌+◌, ◌-◌, ◌<◌, ◌==◌, ◌∷◌, ◌≢◌, ◌≤◌}, Str.bytes_eq}
 
 -- Food and metal that something costs or brings.
 

@@ -1,14 +1,13 @@
 -- A turn in which what players make has a price: deeds, commands, the rest of the turn, and the income.
-use Rattle.sim_base.specs.declared.command.Command.TheVariants.{Attack, Delete, Place, Resign, Stop, Train, Walk}
-use Rattle.sim_base.specs.declared.{command.Command.Command, command.PlayerCommand.PlayerCommand, setup.Setup.Setup, state.Row.Row, state.State.State}
-use Rattle.sim_base.specs.{Commands.commanded, Limits.IsFrom, Limits.IsValid, Turn.Past, Turn.Turn, Turn.first_state, Turn.orders_at, Turn.turn}
-use Rattle.sim_board.specs.{Boards.AreKept, Boards.IsWholeBy, Boards.setup_in, Boards.state_in, declared.board.Board.Board}
-use Rattle.sim_stock.specs.Economies.{amount_of, AreBelow, gained, IsEconomy, no_rate, rate_at, spent, total}
-use Rattle.sim_stock.specs.declared.deed.{DatedDeed.DatedDeed, Deed.Deed, Deed.TheVariants.Barter, Deed.TheVariants.Tribute}
-use Rattle.std.specs.Prelude.{[], All, Bool, filter, fold, if◌then◌else◌, length, List, nat_le, nat_lt, OnOk, Result, suc, true, zero, ℕ, ◌&&◌, ◌*◌, ◌++◌, ◌+◌}
+use Rattle.sim_base.specs.{Commands.commanded, declared.command.Command.{Command, TheVariants.{Attack, Delete, Place, Resign, Stop, Train, Walk}}}
+use Rattle.sim_base.specs.{declared.{command.PlayerCommand.PlayerCommand, setup.Setup.Setup, state.{Row.Row, State.State}}, Limits.{IsFrom, IsValid}}
+use Rattle.sim_base.specs.Turn.{first_state, orders_at, Past, Turn, turn}
+use Rattle.{sim_board.specs.{Boards.{AreKept, IsWholeBy, setup_in, state_in}, declared.board.Board.Board}, sim_laws.specs.TurnLaws.IsOrderOf}
+use Rattle.sim_stock.specs.declared.{deed.{DatedDeed.DatedDeed, Deed.{Deed, TheVariants.{Barter, Tribute}}}, economy.Economy.Economy, rate.Rate.Rate}
+use Rattle.sim_stock.specs.{declared.stocks.Stocks.Stocks, Economies.{amount_of, AreBelow, gained, IsEconomy, no_rate, rate_at, spent, total}}
+use Rattle.sim_system.specs.{declared.system.System.Ghosts, Meanings.Meaning, RigWords.systems_by}
+use Rattle.std.specs.Prelude.{All, Bool, filter, fold, if◌then◌else◌, length, List, nat_le, nat_lt, OnOk, Result, suc, true, zero, ℕ, [], ◌&&◌, ◌*◌, ◌++◌, ◌+◌}
 use Rattle.std.specs.Prelude.{◌-◌, ◌/◌, ◌<◌, ◌==◌, ◌^◌, ◌∷◌, ◌≡◌, ◌≢◌, ◌≤◌}
-use Rattle.{sim_laws.specs.TurnLaws.IsOrderOf, sim_stock.specs.declared.rate.Rate.Rate, sim_system.specs.Meanings.Meaning, sim_system.specs.RigWords.systems_by}
-use Rattle.{sim_stock.specs.declared.economy.Economy.Economy, sim_stock.specs.declared.stocks.Stocks.Stocks, sim_system.specs.declared.system.System.Ghosts}
 
 -- What a deed makes of the stocks, and what a handler of deeds may be asked.
 

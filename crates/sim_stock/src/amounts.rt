@@ -1,19 +1,17 @@
 //! Lists of pairs of amounts: what each player begins with, and the prices and incomes of templates by their names.
 
-ghost use Rattle.std.specs.Prelude.{All, IfOk, IfSome, map, option_and_then, option_map, position, ◌≡◌};
-ghost use Rattle.std.specs.Str.{bytes_eq};
 ghost use Rattle.serde_json.specs.{Find.as_str, View.view};
 ghost use Rattle.sim_stock.specs.Economies.{is_named as is_named_in, IsRate, IsStart, named_from as named_from_data, named_in as named_in_data};
 ghost use Rattle.sim_stock.specs.Economies.{named_of as named_of_data, number_of as number_of_name, opening as opening_of, pair_of as pair_of_data};
 ghost use Rattle.sim_stock.specs.Economies.{pairs_from as pairs_from_data, rate_named as rate_named_in, rate_of as rate_of_data, rates_in as rates_in_data};
-ghost use Rattle.sim_stock.specs.{Economies.rates_of as rates_of_named, Economies.start_in as start_in_data, Meets.Finds};
+ghost use Rattle.sim_stock.specs.{Economies.{rates_of as rates_of_named, start_in as start_in_data}, Meets.Finds};
+ghost use Rattle.std.specs.{Prelude.{All, IfOk, IfSome, map, option_and_then, option_map, position, ◌≡◌}, Str.bytes_eq};
 
 use crate::rate::{Rate, Rates, rate_at};
 use crate::stocks::Stocks;
 use serde_json::Value;
-use sim_base::{OutOfMemory, Template};
+use sim_base::{Global, OutOfMemory, Template};
 use sim_json::{list_at, list_of, natural_in, two};
-use std::alloc::Global;
 
 // What a player has of a good at most when the match begins.
 const MOST: u64 = 1_000_000_000;

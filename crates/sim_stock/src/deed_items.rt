@@ -1,10 +1,9 @@
 //! One deed of the list: its turn, its player, its word and what follows it.
 
-ghost use Rattle.std.specs.Prelude.{IfSome, map, option_and_then, option_map, ◌≡◌, ◌≤◌};
+ghost use Rattle.{serde_json.specs.View.view, sim_json.specs.Values.{front_two as front_two_of, list_of as list_of_data}};
 ghost use Rattle.sim_stock.specs.Economies.{barter_from as barter_from_data, dated_of as dated_of_data, deed_by as deed_by_word, deed_in as deed_in_data};
-ghost use Rattle.sim_stock.specs.Economies.{good_of as good_of_data, IsAmountUpTo, IsDated, IsDeedBy, tribute_from as tribute_from_data};
-ghost use Rattle.sim_stock.specs.Meets.{Finds};
-ghost use Rattle.{serde_json.specs.View.view, sim_json.specs.Values.front_two as front_two_of, sim_json.specs.Values.list_of as list_of_data};
+ghost use Rattle.sim_stock.specs.{Economies.{good_of as good_of_data, IsAmountUpTo, IsDated, IsDeedBy, tribute_from as tribute_from_data}, Meets.Finds};
+ghost use Rattle.std.specs.Prelude.{IfSome, map, option_and_then, option_map, ◌≡◌, ◌≤◌};
 
 use crate::deed::{DatedDeed, Deed};
 use serde_json::Value;

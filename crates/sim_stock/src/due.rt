@@ -1,8 +1,7 @@
 //! The deeds of a turn. They stand together, since all ascend by their turns, and are found by a binary search.
 
-ghost use Rattle.std.specs.List.Sorted.{IsNonDecreasingBy, IsPartitionPoint};
-ghost use Rattle.std.specs.Prelude.{◌≡◌, ◌+◌, ◌^◌, ◌<◌, ◌≤◌, true, false, length, nat_lt};
-ghost use Rattle.sim_stock.specs.{PaidTurns.deeds_at, declared.deed.DatedDeed.DatedDeed as AnyDated};
+ghost use Rattle.sim_stock.specs.{declared.deed.DatedDeed.DatedDeed as AnyDated, PaidTurns.deeds_at};
+ghost use Rattle.std.specs.{List.Sorted.{IsNonDecreasingBy, IsPartitionPoint}, Prelude.{false, length, nat_lt, true, ◌+◌, ◌<◌, ◌^◌, ◌≡◌, ◌≤◌}};
 
 use crate::deed::DatedDeed;
 

@@ -1,19 +1,17 @@
 //! The whole economy: the object, what players begin with and the two lists of rates first, then each deed.
 
-ghost use Rattle.std.specs.{List.Sorted.IsNonDecreasingBy, Prelude.All, Prelude.IfOk, Prelude.false, Prelude.map, Prelude.option_map, Prelude.◌≡◌, Str.is_utf8};
-ghost use Rattle.serde_json.specs.View.{view};
-ghost use Rattle.sim_stock.specs.Economies.{IsDated, IsEconomy, economy_within as economy_within_data, few as few_of};
+ghost use Rattle.{serde_json.specs.View.view, sim_stock.specs.declared.deed.DatedDeed.DatedDeed as AnyDated};
 ghost use Rattle.sim_stock.specs.Economies.{deeds_from as deeds_from_data, economy_in as economy_in_data, economy_of as economy_of_bytes};
-ghost use Rattle.sim_stock.specs.{Meets.Meets, Meets.MeetsWithin, declared.deed.DatedDeed.DatedDeed as AnyDated};
+ghost use Rattle.sim_stock.specs.{Economies.{economy_within as economy_within_data, few as few_of, IsDated, IsEconomy}, Meets.{Meets, MeetsWithin}};
+ghost use Rattle.std.specs.{List.Sorted.IsNonDecreasingBy, Prelude.{All, false, IfOk, map, option_map, ◌≡◌}, Str.is_utf8};
 
 use crate::amounts::{rates_in, start_in};
 use crate::deed_items::dated_of;
 use crate::fault::refused;
 use crate::{DatedDeeds, Economy, EconomyFault};
 use serde_json::Value;
-use sim_base::Setup;
+use sim_base::{Global, Setup};
 use sim_json::{list_at, other_key, value_of};
-use std::alloc::Global;
 
 // A list of deeds has so many at most.
 const MOST: usize = 100_000;

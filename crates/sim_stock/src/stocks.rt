@@ -1,9 +1,8 @@
 //! How much food and metal each player has. Good 0 is food, and good 1 is metal.
 
-ghost use Rattle.std.specs.Prelude.{◌+◌, ◌<◌, ◌^◌, ◌≡◌, ◌≤◌};
 ghost use Rattle.sim_base.specs.Limits.{IsFrom};
-ghost use Rattle.sim_stock.specs.Economies.{amount_of, gained, IsRate, spent, total};
-ghost use Rattle.sim_stock.specs.PaidTurns.{affords as affords_by, CanPay, earned, paid};
+ghost use Rattle.sim_stock.specs.{Economies.{amount_of, gained, IsRate, spent, total}, PaidTurns.{affords as affords_by, CanPay, earned, paid}};
+ghost use Rattle.std.specs.Prelude.{◌+◌, ◌<◌, ◌^◌, ◌≡◌, ◌≤◌};
 
 use crate::rate::Rate;
 

@@ -1,8 +1,7 @@
 -- One more piece written: what was written of the bytes so far, and then the beginning of the others.
-use Rattle.sim_store.specs.{Held.File, Held.FileSet, Held.file_in, Reading.Fills, Shelf.HeldGrows, Shelf.HeldSet, declared.fault.Failed.Failed}
-use Rattle.std.proofs.Common.{[], ap, drop, Err, IfSome, length, length-drop, List, None, Ok, Option, Result, Some, subst, sym, take, ℕ, ◌++◌, ◌+◌, ◌-◌, ◌∙◌}
-use Rattle.std.proofs.{Common.◌≡◌, KnownBytes.Appends-trans, Math.Seq.take-add, Math.Seq.take-length}
-use Rattle.std.specs.{Io.KnownBytes.Appends, Prelude.⊤}
+use Rattle.sim_store.specs.{declared.fault.Failed.Failed, Held.{File, file_in, FileSet}, Reading.Fills, Shelf.{HeldGrows, HeldSet}}
+use Rattle.std.proofs.Common.{ap, drop, Err, IfSome, length, length-drop, List, None, Ok, Option, Result, Some, subst, sym, take, ℕ, [], ◌++◌, ◌+◌, ◌-◌, ◌∙◌}
+use Rattle.std.{proofs.{Common.◌≡◌, KnownBytes.Appends-trans, Math.Seq.{take-add, take-length}}, specs.{Io.KnownBytes.Appends, Prelude.⊤}}
 
 -- the bytes from a place on, as a clause has them
 abbrev pub from_place : ℕ → List ℕ → List ℕ

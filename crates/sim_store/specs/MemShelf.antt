@@ -1,7 +1,6 @@
 -- What a shelf in memory means.
-use Rattle.sim_store.specs.declared.{fault.Failed.Failed, mem_shelf.MemShelf.MemShelf}
-use Rattle.sim_store.specs.{Held.File, Held.files_of, Held.first_bytes, Held.first_name, OpenFile.bytes_left, Shelf.KeepsFiles, Shelf.KeepsReading}
-use Rattle.sim_store.specs.{Shelf.WriteCounts, Shelf.calls_in, Shelf.is_next_listed, Shelf.listed_in, Shelf.raised, declared.counts.Counts.Counts}
+use Rattle.sim_store.specs.{declared.{counts.Counts.Counts, fault.Failed.Failed, mem_shelf.MemShelf.MemShelf}, Held.{File, files_of, first_bytes, first_name}}
+use Rattle.sim_store.specs.{OpenFile.bytes_left, Shelf.{calls_in, is_next_listed, KeepsFiles, KeepsReading, listed_in, raised, WriteCounts}}
 use Rattle.std.specs.Prelude.{Bool, if◌then◌else◌, is_some, IsTrue, List, None, Option, option_map, Result, Some, ℕ, ◌↔◌, ◌≡◌}
 
 -- the files that the shelf holds

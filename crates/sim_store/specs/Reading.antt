@@ -1,10 +1,9 @@
 -- What reading a whole file answers, and why.
-use Rattle.sim_base.specs.Limits.{file_limit}
-use Rattle.sim_store.specs.declared.fault.StoreFault.TheVariants.{NoFile, OutOfMemory, ReadFault, TooLong, WriteFault}
-use Rattle.sim_store.specs.declared.{counts.Counts.Counts, fault.Failed.Failed, fault.StoreFault.StoreFault, shelf.Shelf.Ghosts}
-use Rattle.sim_store.specs.{Held.File, Shelf.HeldSet, Shelf.KeepsFiles, Shelf.Rose, Shelf.after_giving, Shelf.after_miss, Shelf.after_read_fault, Shelf.raised}
-use Rattle.std.specs.Prelude.{Bool, Err, if◌then◌else◌, IsFalse, IsTrue, length, List, nat_le, None, Ok, OnOk, Option, Result, Some, take, Vec, ℕ, ⊤, ◌+◌, ◌<◌}
-use Rattle.std.specs.{Io.KnownBytes.Appends, Io.KnownBytes.IsAtEnd, Prelude.◌≡◌, Prelude.◌≢◌, Prelude.◌≤◌, Prelude.◌⊎◌, declared.alloc.Global.Global}
+use Rattle.{sim_base.specs.Limits.file_limit, sim_store.specs.declared.{counts.Counts.Counts, fault.Failed.Failed}}
+use Rattle.sim_store.specs.declared.{fault.StoreFault.{StoreFault, TheVariants.{NoFile, OutOfMemory, ReadFault, TooLong, WriteFault}}, shelf.Shelf.Ghosts}
+use Rattle.sim_store.specs.{Held.File, Shelf.{after_giving, after_miss, after_read_fault, HeldSet, KeepsFiles, raised, Rose}}
+use Rattle.std.specs.{declared.alloc.Global.Global, Io.KnownBytes.{Appends, IsAtEnd}, Prelude.{Bool, Err, if◌then◌else◌, IsFalse, IsTrue, length, List, nat_le}}
+use Rattle.std.specs.Prelude.{None, Ok, OnOk, Option, Result, Some, take, Vec, ℕ, ⊤, ◌+◌, ◌<◌, ◌≡◌, ◌≢◌, ◌≤◌, ◌⊎◌}
 
 -- the bytes, unless they are more than a file may have
 abbrev pub within_limit : List ℕ → Result (List ℕ) StoreFault

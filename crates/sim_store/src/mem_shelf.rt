@@ -9,8 +9,7 @@ ghost use Rattle.sim_store.specs.{Held.FileSet, Held.file_in, Held.first_bytes, 
 use crate::held::{Held, add_to_first, find, put_first};
 use crate::open_file::OpenFile;
 use crate::{Calls, Counts, Failed, Shelf, ShelfFault};
-use sim_base::OutOfMemory;
-use std::alloc::Global;
+use sim_base::{Global, OutOfMemory};
 
 /// Files in memory. A made file has room for as many bytes as was said at first, and one that was put has no limit.
 #[derive(Drop)]

@@ -5,8 +5,7 @@ ghost use Rattle.sim_store.specs.{Pieces.AddsWhole, Sink.SinkCounts};
 ghost use Rattle.std.specs.Prelude.{◌≡◌, ◌+◌, ◌≤◌, ◌↔◌, [], ◌∷◌, ◌++◌, length, IfOk, OnOk, OnErr, IsOk, IsFalse, Some, vec_len, vec_capacity};
 
 use crate::{Calls, Failed, Sink, one_more};
-use sim_base::OutOfMemory;
-use std::alloc::Global;
+use sim_base::{Global, OutOfMemory};
 
 /// Takes bytes until its room is full.
 #[derive(Drop)]

@@ -1,10 +1,9 @@
 //! The trait of a shelf: files by name, one of which may be open for reading and one being made. It is a trait so that
 //! the program reads and writes through it alone, and is proved for every shelf that keeps these promises.
 
-ghost use Rattle.std.specs.Io.KnownBytes.{IsAtEnd};
-ghost use Rattle.std.specs.Prelude.{Bool, false, IfSome, is_ok, IsTrue, List, OnOk, Option, ℕ, ◌≡◌};
+ghost use Rattle.sim_store.specs.{declared.counts.Counts.Counts, Held.{File, file_in}, Pieces.{Adds, Moves}};
 ghost use Rattle.sim_store.specs.Shelf.{KeepsFiles, KeepsReading, MakeCounts, MakeHolds, OpenCounts, opens, OpenTells, ReadCounts, WriteCounts, WriteHolds};
-ghost use Rattle.sim_store.specs.{Held.File, Held.file_in, Pieces.Adds, Pieces.Moves, declared.counts.Counts.Counts};
+ghost use Rattle.std.specs.{Io.KnownBytes.IsAtEnd, Prelude.{Bool, false, IfSome, is_ok, IsTrue, List, OnOk, Option, ℕ, ◌≡◌}};
 
 use crate::fault::{Failed, ShelfFault};
 

@@ -1,8 +1,7 @@
 //! The trait of a sink: where the program's text goes. It is a trait so that the program is proved for every sink that
 //! keeps these promises, be it standard output or a list of bytes.
 
-ghost use Rattle.std.specs.Prelude.{ℕ, List, Option};
-ghost use Rattle.sim_store.specs.{Pieces.Adds, Sink.SinkCounts};
+ghost use Rattle.{sim_store.specs.{Pieces.Adds, Sink.SinkCounts}, std.specs.Prelude.{List, Option, ℕ}};
 
 use crate::fault::Failed;
 

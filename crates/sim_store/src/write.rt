@@ -1,9 +1,8 @@
 //! Writing a whole text and a whole file, over any sink and shelf. A shelf and a sink may take a piece in parts; here
 //! the parts are put together, so that nobody else has to.
 
+ghost use Rattle.sim_store.specs.{Reading.{FileCauses, FileMeets, Fills, IsFilled, OutCauses, OutMeets}, Shelf.{HeldEmpty, KeepsReading, WriteCounts}};
 ghost use Rattle.std.specs.Prelude.{false, IsTrue, ◌≡◌};
-ghost use Rattle.sim_store.specs.Reading.{FileCauses, FileMeets, Fills, IsFilled, OutCauses, OutMeets};
-ghost use Rattle.sim_store.specs.Shelf.{HeldEmpty, KeepsReading, WriteCounts};
 
 use crate::{Failed, Shelf, ShelfFault, Sink, StoreFault};
 

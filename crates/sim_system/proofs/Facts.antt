@@ -1,8 +1,7 @@
 -- What is kept of an entity has its id, and a fact goes behind those whose ids are less.
-use Rattle.sim_system.specs.declared.kind.Kind.{Kind, TheVariants.Census, TheVariants.Ground, TheVariants.Range, TheVariants.Watch}
-use Rattle.sim_system.specs.{Notes.id_of_fact, Notes.keeps, Notes.kept, Notes.part_for, Notes.placed, declared.fact.Fact.Fact}
-use Rattle.std.proofs.Common.{ap, arith, Bool, cond, false, List, nat_lt, None, refl, Some, true, ◌<◌, ◌∙◌, ◌∷◌, ◌≡◌}
-use Rattle.std.proofs.lemmas.Bool.{le-ltb}
+use Rattle.sim_system.specs.declared.{fact.Fact.Fact, kind.Kind.{Kind, TheVariants.{Census, Ground, Range, Watch}}}
+use Rattle.sim_system.specs.Notes.{id_of_fact, keeps, kept, part_for, placed}
+use Rattle.std.proofs.{Common.{ap, arith, Bool, cond, false, List, nat_lt, None, refl, Some, true, ◌<◌, ◌∙◌, ◌∷◌, ◌≡◌}, lemmas.Bool.le-ltb}
 
 pub kept_id : (kind : Kind) (fact f : Fact) → kept kind fact ≡ Some f → f.id ≡ fact.id
 kept_id kind fact f e = by (keeps kind fact) e ∙ part_id kind

@@ -1,15 +1,13 @@
 -- What a system is to its callers, and the four systems of a match. All of it is plain data, and knows of no boxes.
 use Rattle.sim_system.specs.declared.ask.Ask.TheVariants as ask
 use Rattle.sim_base.specs.Commands.{field_of, is_free_rect, is_near, is_open, population, rect_covers, seen, spot, watchers, within}
-use Rattle.sim_base.specs.Places.{Field, IsOnGround, cells_of, centre_of, covers, is_inside, is_rect_inside, square}
-use Rattle.sim_base.specs.declared.{place.Cell.Cell, place.Point.Point, place.Rect.Rect, setup.Land.Land, setup.Setup.Setup, state.Row.Row, state.State.State}
-use Rattle.sim_base.specs.{Rows.arms_of, Rows.in_mask, Rows.row_of, Rows.size_of, Ways.Way, Ways.least_of, Ways.way_of, declared.template.Arms.Arms}
-use Rattle.sim_system.specs.Notes.{fact_with, facts_of, id_of_fact, kept_of, noted, NoteFits}
-use Rattle.sim_system.specs.declared.ask.Answer.{Answer, TheVariants.Found, TheVariants.Many, TheVariants.Number, TheVariants.Place, TheVariants.Truth}
+use Rattle.sim_base.specs.declared.{place.{Cell.Cell, Point.Point, Rect.Rect}, setup.{Land.Land, Setup.Setup}, state.{Row.Row, State.State}, template.Arms.Arms}
+use Rattle.sim_base.specs.{Places.{cells_of, centre_of, covers, Field, is_inside, is_rect_inside, IsOnGround, square}, Rows.{arms_of, in_mask, row_of, size_of}}
+use Rattle.{sim_base.specs.Ways.{least_of, Way, way_of}, sim_system.specs.declared.ask.Answer.{Answer, TheVariants.{Found, Many, Number, Place, Truth}}}
+use Rattle.sim_system.specs.{declared.{kind.Kind.TheVariants.{Ground, Range, Watch}, note.Note.Note}, Notes.{fact_with, facts_of, id_of_fact, kept_of, noted}}
+use Rattle.{sim_system.specs.Notes.NoteFits, std.specs.{List.{list_all, list_any}, Prelude.{Bool, count_by, filter, IsSome, IsTrue, List, map, MatchOption}}}
+use Rattle.std.specs.Prelude.{min, None, not, Option, slice_index, Some, ℕ, ℤ, [], ◌&&◌, ◌+◌, ◌-◌, ◌==◌, ◌^◌, ◌||◌, ◌∷◌, ◌≡◌, ◌≤◌}
 use Rattle.sim_system.specs.declared.{Way.Way as WayAnswer, ask.Ask.Ask, fact.Fact.Fact, kind.Kind.Kind, kind.Kind.TheVariants.Census}
-use Rattle.sim_system.specs.declared.{kind.Kind.TheVariants.Ground, kind.Kind.TheVariants.Range, kind.Kind.TheVariants.Watch, note.Note.Note}
-use Rattle.std.specs.Prelude.{[], Bool, count_by, filter, IsSome, IsTrue, List, map, MatchOption, min, None, not, Option, slice_index, Some, ℕ, ℤ, ◌&&◌, ◌+◌}
-use Rattle.std.specs.{List.list_all, List.list_any, Prelude.◌-◌, Prelude.◌==◌, Prelude.◌^◌, Prelude.◌||◌, Prelude.◌∷◌, Prelude.◌≡◌, Prelude.◌≤◌}
 
 -- What is answered: over the facts of a system, and over the rows of a state.
 

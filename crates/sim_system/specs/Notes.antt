@@ -1,13 +1,12 @@
 -- What a note makes of the facts that a system keeps, and when it fits them.
 use Rattle.sim_base.specs.declared.change.Change.TheVariants as change
-use Rattle.sim_base.specs.declared.{change.Change.Change, place.Point.Point, place.Rect.Rect, setup.Land.Land, setup.Setup.Setup, state.Row.Row}
-use Rattle.sim_base.specs.{Commands.new_row, Commands.watchers, Limits.IsFrom, Limits.IsRawFrom, Places.is_inside, Places.rect_of, Rows.arms_of}
-use Rattle.sim_base.specs.{Rows.rect_of_row, Rows.row_of, Rows.size_of, Rows.target_of, declared.state.State.State, declared.template.Arms.Arms}
-use Rattle.sim_system.specs.declared.kind.Kind.{Kind, TheVariants.Census, TheVariants.Ground, TheVariants.Range, TheVariants.Watch}
-use Rattle.sim_system.specs.declared.note.Note.{Note, TheVariants.Aimed, TheVariants.Born, TheVariants.Gone, TheVariants.Moved, TheVariants.Owned}
-use Rattle.std.specs.Prelude.{Option, option_map, pos, slice_get, Some, true, unwrap_or, ℕ, ℤ, ◌++◌, ◌<◌, ◌==◌, ◌||◌, ◌∷◌, ◌≡◌, ◌≤◌}
-use Rattle.std.specs.Prelude.{[], All, Bool, false, filter, filter_map, find, IfSome, if◌then◌else◌, is_some, IsTrue, length, List, map, nat_lt, None, not}
-use Rattle.{sim_base.specs.declared.template.Template.Template, sim_system.specs.declared.fact.Fact.Fact, std.specs.List.Sorted.IsStrictlyIncreasing}
+use Rattle.sim_base.specs.{Commands.{new_row, watchers}, declared.{change.Change.Change, place.{Point.Point, Rect.Rect}, setup.{Land.Land, Setup.Setup}}}
+use Rattle.sim_base.specs.declared.{state.{Row.Row, State.State}, template.{Arms.Arms, Template.Template}}
+use Rattle.sim_base.specs.{Limits.{IsFrom, IsRawFrom}, Places.{is_inside, rect_of}, Rows.{arms_of, rect_of_row, row_of, size_of, target_of}}
+use Rattle.sim_system.specs.declared.{fact.Fact.Fact, kind.Kind.{Kind, TheVariants.{Census, Ground, Range, Watch}}}
+use Rattle.{sim_system.specs.declared.note.Note.{Note, TheVariants.{Aimed, Born, Gone, Moved, Owned}}, std.specs.List.Sorted.IsStrictlyIncreasing}
+use Rattle.std.specs.Prelude.{All, Bool, false, filter, filter_map, find, IfSome, if◌then◌else◌, is_some, IsTrue, length, List, map, nat_lt, None, not, Option}
+use Rattle.std.specs.Prelude.{option_map, pos, slice_get, Some, true, unwrap_or, ℕ, ℤ, [], ◌++◌, ◌<◌, ◌==◌, ◌||◌, ◌∷◌, ◌≡◌, ◌≤◌}
 
 -- What each kind of system keeps of a state.
 

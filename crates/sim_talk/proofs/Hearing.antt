@@ -1,10 +1,9 @@
 -- What is heard of a line, by how its bytes were poured.
 use Rattle.sim_talk.specs.declared.fault.HearFault.TheVariants as fault
-use Rattle.sim_talk.specs.{LineTalk.Ends, LineTalk.IsText, Lines.HearsOf, Lines.HearsPart, Lines.HearsTooMuch, Lines.IsPart, Lines.IsWithinLine}
-use Rattle.sim_talk.specs.{Lines.PoursOpen, Lines.PoursTooMuch, Lines.PoursWhole, Lines.feed, declared.fault.HearFault.HearFault}
-use Rattle.std.proofs.Common.{[], ap, append_assoc, Bool, Err, false, length, List, None, Ok, Option, refl, Result, Some, subst, sym, true, ℕ, ◌++◌, ◌<◌, ◌∙◌}
-use Rattle.std.proofs.{Common.◌∷◌, Common.◌≡◌, lemmas.List.Elements.All-append}
-use Rattle.std.specs.{Io.KnownBytes.Consumes, Io.KnownBytes.IsAtEnd, Io.KnownBytes.Keeps, Io.KnownBytes.prepend_known, Str.IsUtf8}
+use Rattle.sim_talk.specs.declared.fault.HearFault.{HearFault}
+use Rattle.sim_talk.specs.{Lines.{feed, HearsOf, HearsPart, HearsTooMuch, IsPart, IsWithinLine, PoursOpen, PoursTooMuch, PoursWhole}, LineTalk.{Ends, IsText}}
+use Rattle.std.proofs.Common.{ap, append_assoc, Bool, Err, false, length, List, None, Ok, Option, refl, Result, Some, subst, sym, true, ℕ, [], ◌++◌, ◌<◌, ◌∙◌}
+use Rattle.std.{proofs.{Common.{◌∷◌, ◌≡◌}, lemmas.List.Elements.All-append}, specs.{Io.KnownBytes.{Consumes, IsAtEnd, Keeps, prepend_known}, Str.IsUtf8}}
 
 -- What was taken of an input while a line is read in pieces: what stands in the line so far, and behind it what is ahead and what the
 -- input has left.

@@ -1,9 +1,8 @@
 -- A talk that tells no history promises no more than which fault may be answered, and what was counted then.
 use Rattle.sim_talk.specs.declared.fault.TalkFault.TheVariants as ends
-use Rattle.sim_talk.specs.{LineTalk.HearCounts, LineTalk.TellCounts, LineTalk.WriteCounts, Talks.Extends, Talks.Hears, Talks.History, Talks.Passed}
-use Rattle.sim_talk.specs.{Talks.Settles, Talks.Tells, Talks.none_of, Talks.told, Talks.told_bytes, Talks.untold, declared.fault.TalkFault.TalkFault}
-use Rattle.std.proofs.Common.{[], ap, append-nil, Bool, Err, false, List, Ok, refl, Result, sym, true, ℕ, ◌∙◌, ◌∷◌, ◌≡◌}
-use Rattle.{sim_store.specs.Shelf.raised, sim_store.specs.declared.fault.Failed.Failed, std.specs.Prelude.⊤}
+use Rattle.{sim_store.specs.{declared.fault.Failed.Failed, Shelf.raised}, sim_talk.specs.{declared.fault.TalkFault.TalkFault, LineTalk.HearCounts}}
+use Rattle.sim_talk.specs.{LineTalk.{TellCounts, WriteCounts}, Talks.{Extends, Hears, History, none_of, Passed, Settles, Tells, told, told_bytes, untold}}
+use Rattle.std.{proofs.Common.{ap, append-nil, Bool, Err, false, List, Ok, refl, Result, sym, true, ℕ, [], ◌∙◌, ◌∷◌, ◌≡◌}, specs.Prelude.⊤}
 
 -- nothing is told of what passed
 passes_untold : (read read' wrote wrote' : ℕ) (more : List Passed) → read' ≡ read → wrote' ≡ wrote → Extends (untold read wrote) (untold read' wrote') more

@@ -1,9 +1,8 @@
 -- Which bytes of a piece are read, and which are poured into a line.
-use Rattle.std.proofs.{Common.subst, Common.sym, Common.◌∙◌, Math.Seq.drop-cons, Math.Seq.take-append_seam, Math.Seq.take-length}
-use Rattle.std.proofs.Common.{◌≡◌, ℕ, suc, ◌+◌, ◌-◌, ◌<◌, ◌≤◌, List, [], ◌∷◌, ◌++◌, length, get_or, take, drop, ap, arith, length-append, length-drop}
-use Rattle.std.proofs.lemmas.List.{drop-drop, get_or-take, get_or_default, length-take-le, nil_from_length, take-append-drop}
-use Rattle.std.specs.Prelude.{min}
 use Rattle.sim_talk.specs.Lines.{IsWithinLine, PoursOpen, PoursTooMuch, PoursWhole}
+use Rattle.std.proofs.Common.{ap, arith, drop, get_or, length, length-append, length-drop, List, subst, suc, sym, take, ℕ, [], ◌++◌, ◌+◌, ◌-◌, ◌<◌, ◌∙◌, ◌∷◌}
+use Rattle.std.proofs.{Common.{◌≡◌, ◌≤◌}, lemmas.List.{drop-drop, get_or-take, get_or_default, length-take-le, nil_from_length, take-append-drop}}
+use Rattle.std.{proofs.Math.Seq.{drop-cons, take-append_seam, take-length}, specs.Prelude.min}
 
 -- what a read copies to the front of the buffer, and what it leaves, is what was left before
 pub drop-read : (bytes into front : List ℕ) (at count : ℕ) → count ≤ length (drop at bytes) → front ≡ take count (drop at bytes)

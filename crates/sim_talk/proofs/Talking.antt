@@ -1,14 +1,13 @@
 -- What passed, and then what passed behind it; and one line more is answered behind those that were.
 use Rattle.sim_talk.specs.declared.fault.TalkFault.TheVariants as ends
-use Rattle.sim_store.specs.{Shelf.Rose, Shelf.raised, declared.fault.Failed.Failed}
-use Rattle.sim_talk.specs.Dialogues.{IsCutOff, IsUntold, Speaks, TellsText, last_part, no_answer, no_first, no_last, no_line, talk_so_far}
+use Rattle.{sim_store.specs.{declared.fault.Failed.Failed, Shelf.{raised, Rose}}, sim_talk.specs.declared.fault.{HearFault.HearFault, TalkFault.TalkFault}}
 use Rattle.sim_talk.specs.Dialogues.{after_lines, amid_answer, answer_part, AnswersLines, before_line, Causes, Converses, dialogue, EndsAs, first_part, IsAll}
-use Rattle.sim_talk.specs.Talks.{Extends, Grows, HasLost, heard, heard_bytes, Hears, History, IsBeginning, Loses, Misses, part_of, Passed, Says, Tells, told}
-use Rattle.sim_talk.specs.{LineTalk.TellCounts, LineTalk.TellsOut, LineTalk.piped, Lines.IsCause, Lines.MissesOf, Lines.ReadCounts, Lines.feed, Talks.Writes}
-use Rattle.sim_talk.specs.{Talks.WritesAll, Talks.told_bytes, declared.fault.HearFault.HearFault, declared.fault.TalkFault.TalkFault}
-use Rattle.std.proofs.Common.{[], ap, append-nil, append_assoc, arith, Err, inl, inr, length, List, None, Ok, Option, refl, Result, Some, subst, sym, take, ℕ}
-use Rattle.std.proofs.{Common.◌++◌, Common.◌-◌, Common.◌<◌, Common.◌^◌, Common.◌∙◌, Common.◌∷◌, Common.◌≡◌, Math.Seq.take-length, Math.Seq.take-nil}
-use Rattle.std.specs.{Io.KnownBytes.Appends, Io.KnownBytes.Consumes, Io.KnownBytes.IsAtEnd, Io.KnownBytes.prepend_known, Prelude.⊤}
+use Rattle.sim_talk.specs.Dialogues.{IsCutOff, IsUntold, last_part, no_answer, no_first, no_last, no_line, Speaks, talk_so_far, TellsText}
+use Rattle.sim_talk.specs.{Lines.{feed, IsCause, MissesOf, ReadCounts}, LineTalk.{piped, TellCounts, TellsOut}, Talks.{Extends, Grows, HasLost, heard}}
+use Rattle.sim_talk.specs.Talks.{heard_bytes, Hears, History, IsBeginning, Loses, Misses, part_of, Passed, Says, Tells, told, told_bytes, Writes, WritesAll}
+use Rattle.std.proofs.Common.{ap, append-nil, append_assoc, arith, Err, inl, inr, length, List, None, Ok, Option, refl, Result, Some, subst, sym, take, ℕ, []}
+use Rattle.std.proofs.{Common.{◌++◌, ◌-◌, ◌<◌, ◌^◌, ◌∙◌, ◌∷◌, ◌≡◌}, Math.Seq.{take-length, take-nil}}
+use Rattle.std.specs.{Io.KnownBytes.{Appends, Consumes, IsAtEnd, prepend_known}, Prelude.⊤}
 
 -- ---- the parts of a history
 

@@ -1,10 +1,9 @@
 -- Talks in which each line is answered before the next one is heard. Who answers is told by two functions: what is answered to a
 -- line, by what he has come to, and what he comes to by it.
 use Rattle.sim_talk.specs.declared.fault.TalkFault.TheVariants as ends
-use Rattle.sim_talk.specs.{Lines.ReadCounts, Talks.Breaks, Talks.Extends, Talks.HasLost, Talks.History, Talks.IsBeginning, Talks.Loses, Talks.Misses}
-use Rattle.std.specs.Prelude.{[], Err, length, List, None, Ok, Option, Result, Some, ℕ, ⊤, ◌++◌, ◌-◌, ◌<◌, ◌^◌, ◌∷◌, ◌≡◌, ◌⊎◌}
-use Rattle.{sim_store.specs.Shelf.Rose, sim_talk.specs.Talks.Passed, sim_talk.specs.Talks.WritesAll, sim_talk.specs.Talks.heard}
-use Rattle.{sim_talk.specs.Talks.heard_bytes, sim_talk.specs.Talks.told, sim_talk.specs.declared.fault.TalkFault.TalkFault, std.specs.Io.KnownBytes.IsAtEnd}
+use Rattle.{sim_store.specs.Shelf.Rose, sim_talk.specs.{declared.fault.TalkFault.TalkFault, Lines.ReadCounts}}
+use Rattle.sim_talk.specs.Talks.{Breaks, Extends, HasLost, heard, heard_bytes, History, IsBeginning, Loses, Misses, Passed, told, WritesAll}
+use Rattle.std.specs.{Io.KnownBytes.IsAtEnd, Prelude.{Err, length, List, None, Ok, Option, Result, Some, ℕ, ⊤, [], ◌++◌, ◌-◌, ◌<◌, ◌^◌, ◌∷◌, ◌≡◌, ◌⊎◌}}
 
 -- what he has come to after these lines
 abbrev pub after_lines : {S : Type 0} → (S → List ℕ → S) → S → List (List ℕ) → S

@@ -1,11 +1,10 @@
 -- What a talk over an input and a sink answers.
 use Rattle.sim_talk.specs.declared.fault.HearFault.TheVariants as fault
 use Rattle.sim_talk.specs.declared.fault.TalkFault.TheVariants as ends
-use Rattle.sim_store.specs.{Shelf.raised, declared.fault.Failed.Failed, declared.sink.Sink.Ghosts}
-use Rattle.sim_talk.specs.declared.fault.TalkFault.{TalkFault}
-use Rattle.sim_talk.specs.{Lines.HearsOf, Lines.MissesOf, Lines.ReadCounts, Talks.Extends, Talks.History, Talks.Loses, declared.fault.HearFault.HearFault}
-use Rattle.std.specs.Prelude.{[], Bool, Err, false, length, List, None, Ok, Option, Result, take, true, ℕ, ⊤, ◌++◌, ◌<◌, ◌≡◌}
-use Rattle.std.specs.{Io.KnownBytes.Appends, Io.KnownBytes.Consumes, Io.KnownBytes.IsAtEnd, Io.KnownBytes.Keeps, Io.KnownBytes.prepend_known, Str.IsUtf8}
+use Rattle.sim_store.specs.{declared.{fault.Failed.Failed, sink.Sink.Ghosts}, Shelf.raised}
+use Rattle.sim_talk.specs.{declared.fault.{HearFault.HearFault, TalkFault.TalkFault}, Lines.{HearsOf, MissesOf, ReadCounts}, Talks.{Extends, History, Loses}}
+use Rattle.std.specs.Io.KnownBytes.{Appends, Consumes, IsAtEnd, Keeps, prepend_known}
+use Rattle.std.specs.{Prelude.{Bool, Err, false, length, List, None, Ok, Option, Result, take, true, ℕ, ⊤, [], ◌++◌, ◌<◌, ◌≡◌}, Str.IsUtf8}
 
 -- what a talk over an input and a sink tells: the bytes of both, with those that were read and not heard yet, what is kept, and what both
 -- have counted

@@ -1,9 +1,8 @@
 -- Lines: which bytes of an input are a line, and what became of one that was to be heard.
 use Rattle.sim_talk.specs.declared.ahead.Poured.TheVariants as poured
 use Rattle.sim_talk.specs.declared.fault.HearFault.TheVariants as fault
-use Rattle.std.specs.Prelude.{[], All, Bool, Err, false, length, List, None, Ok, Option, Result, Some, true, ℕ, ◌++◌, ◌<◌, ◌∷◌, ◌≡◌, ◌≢◌, ◌≤◌}
-use Rattle.std.specs.{Io.KnownBytes.Consumes, Io.KnownBytes.IsAtEnd, Str.IsUtf8}
-use Rattle.{sim_store.specs.Shelf.raised, sim_talk.specs.declared.ahead.Poured.Poured, sim_talk.specs.declared.fault.HearFault.HearFault}
+use Rattle.{sim_store.specs.Shelf.raised, sim_talk.specs.declared.{ahead.Poured.Poured, fault.HearFault.HearFault}, std.specs.Io.KnownBytes.{Consumes, IsAtEnd}}
+use Rattle.std.specs.{Prelude.{All, Bool, Err, false, length, List, None, Ok, Option, Result, Some, true, ℕ, [], ◌++◌, ◌<◌, ◌∷◌, ◌≡◌, ◌≢◌, ◌≤◌}, Str.IsUtf8}
 
 -- what ends a line
 abbrev pub feed : List ℕ

@@ -1,8 +1,7 @@
 -- What passed in a talk in memory.
-use Rattle.{sim_store.specs.declared.fault.Failed.Failed, sim_talk.specs.Talks.heard, sim_talk.specs.Talks.History}
-use Rattle.sim_talk.specs.{Talks.Passed, Talks.told, declared.fault.HearFault.HearFault, declared.fault.TalkFault.TalkFault, declared.mem_talk.Piece.Piece}
-use Rattle.std.specs.Prelude.{[], ◌++◌, ◌∷◌, ◌≡◌, Bool, Err, false, List, map, None, Ok, Option, Result, Some, true, Vec, ℕ, ⊤}
-use Rattle.std.specs.declared.alloc.Global.{Global}
+use Rattle.sim_store.specs.declared.fault.Failed.{Failed}
+use Rattle.sim_talk.specs.{declared.{fault.{HearFault.HearFault, TalkFault.TalkFault}, mem_talk.Piece.Piece}, Talks.{heard, History, Passed, told}}
+use Rattle.std.specs.{declared.alloc.Global.Global, Prelude.{Bool, Err, false, List, map, None, Ok, Option, Result, Some, true, Vec, ℕ, ⊤, [], ◌++◌, ◌∷◌, ◌≡◌}}
 use Rattle.sim_talk.specs.declared.fault.HearFault.TheVariants as fault
 use Rattle.sim_talk.specs.declared.fault.TalkFault.TheVariants as ends
 use Rattle.sim_talk.specs.declared.mem_talk.Piece.TheVariants as piece

@@ -2,10 +2,9 @@
 -- history, so that it says what had been told when a line was asked for, and one over an input and a sink their bytes. What was told may
 -- be kept for a while before it is written. Each talk counts what failed, so that a fault has its cause.
 use Rattle.sim_talk.specs.declared.fault.TalkFault.TheVariants as ends
-use Rattle.sim_store.specs.{Shelf.Rose, Shelf.raised, declared.fault.Failed.Failed}
-use Rattle.sim_talk.specs.{Lines.IsCause, Lines.ReadCounts, Lines.feed, declared.fault.HearFault.HearFault, declared.fault.TalkFault.TalkFault}
-use Rattle.std.specs.Io.KnownBytes.{Appends, Consumes, IsAtEnd}
-use Rattle.std.specs.Prelude.{[], Bool, Err, false, List, None, Ok, Option, Result, Some, take, true, ℕ, ⊤, ◌++◌, ◌∷◌, ◌≡◌}
+use Rattle.{sim_store.specs.{declared.fault.Failed.Failed, Shelf.{raised, Rose}}, sim_talk.specs.declared.fault.{HearFault.HearFault, TalkFault.TalkFault}}
+use Rattle.{sim_talk.specs.Lines.{feed, IsCause, ReadCounts}, std.specs.Io.KnownBytes.{Appends, Consumes, IsAtEnd}}
+use Rattle.std.specs.Prelude.{Bool, Err, false, List, None, Ok, Option, Result, Some, take, true, ℕ, ⊤, [], ◌++◌, ◌∷◌, ◌≡◌}
 
 -- a line that was heard, or a text that was told
 pub data Passed : Type 0 where

@@ -10,9 +10,8 @@ ghost use Rattle.{sim_store.specs.Sink.SinkCounts, sim_talk.specs.Lines.HearsOf,
 use crate::ahead::{Ahead, PIECE, Poured};
 use crate::kept::Kept;
 use crate::{HearFault, Source, Talk, TalkFault};
-use sim_base::OutOfMemory;
+use sim_base::{Global, OutOfMemory};
 use sim_store::{Failed, Sink};
-use std::alloc::Global;
 
 /// Lines of an input, each of at most so many bytes, and texts to a sink.
 #[derive(Drop)]
@@ -25,8 +24,7 @@ pub struct LineTalk<S: Source + Drop, K: Sink + Drop> {
 }
 
 impl<S: Source + Drop, K: Sink + Drop> LineTalk<S, K> {
-    ghost use Rattle.std.specs.Io.KnownBytes.{prepend_known};
-    ghost use Rattle.{sim_talk.specs.Ahead.bytes_ahead, sim_talk.specs.Kept.bytes_kept};
+    ghost use Rattle.{sim_talk.specs.{Ahead.bytes_ahead, Kept.bytes_kept}, std.specs.Io.KnownBytes.prepend_known};
 
     /// Nothing was heard or told yet. It takes the memory for a piece of the input, and for what is kept.
     pub fn new(
@@ -136,8 +134,7 @@ fn end_of(line: &[u8]) -> Result<bool, HearFault>
 }
 
 impl<S: Source + Drop, K: Sink + Drop> Talk for LineTalk<S, K> {
-    ghost use Rattle.std.specs.Io.KnownBytes.{prepend_known};
-    ghost use Rattle.{sim_talk.specs.Ahead.bytes_ahead, sim_talk.specs.Kept.bytes_kept};
+    ghost use Rattle.{sim_talk.specs.{Ahead.bytes_ahead, Kept.bytes_kept}, std.specs.Io.KnownBytes.prepend_known};
 
     ghost history = { λ s. piped (bytes_ahead s.ahead) (S.left s.source) (K.told s.sink) (bytes_kept s.kept) s.most (S.faults s.source) (K.faults s.sink) };
 

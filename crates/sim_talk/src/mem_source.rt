@@ -5,9 +5,8 @@ ghost use Rattle.std.specs.Prelude.{[], IfOk, IsFalse, IsOk, length, min, OnErr,
 ghost use Rattle.sim_store.specs.{Pieces.Moves, Shelf.raised, Sink.SinkCounts};
 
 use crate::source::Source;
-use sim_base::OutOfMemory;
+use sim_base::{Global, OutOfMemory};
 use sim_store::{Calls, Failed, one_more};
-use std::alloc::Global;
 
 /// Bytes that come in pieces of at most so many.
 #[derive(Drop)]

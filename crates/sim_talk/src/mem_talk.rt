@@ -1,13 +1,11 @@
 //! A talk in memory, whose lines are given, and which keeps what passed.
 
-ghost use Rattle.std.specs.Prelude.{◌≡◌, ℕ, ◌-◌, ◌≤◌, List, [], ◌∷◌, ◌++◌, length, IfOk, OnOk, OnErr, IsErr};
-ghost use Rattle.sim_talk.specs.MemTalk.{HearsGiven, history_of, KeepsTold, lines_in, passed_in};
-ghost use Rattle.sim_talk.specs.{Talks.Hears, Talks.Passed, Talks.Tells};
+ghost use Rattle.sim_talk.specs.{MemTalk.{HearsGiven, history_of, KeepsTold, lines_in, passed_in}, Talks.{Hears, Passed, Tells}};
+ghost use Rattle.std.specs.Prelude.{IfOk, IsErr, length, List, OnErr, OnOk, ℕ, [], ◌++◌, ◌-◌, ◌∷◌, ◌≡◌, ◌≤◌};
 
 use crate::{HearFault, Talk, TalkFault};
-use sim_base::OutOfMemory;
+use sim_base::{Global, OutOfMemory};
 use sim_store::{Failed, one_more};
-use std::alloc::Global;
 
 /// One thing that passed.
 #[derive(Debug, Drop)]

@@ -1,8 +1,7 @@
 //! The trait of an input: bytes come from it, in pieces as they are there. It is a trait so that a talk is proved for every input
 //! that keeps these promises, be it standard input or a list of bytes.
 
-ghost use Rattle.std.specs.Prelude.{ℕ, List, Option};
-ghost use Rattle.sim_store.specs.{Pieces.Moves, Sink.SinkCounts};
+ghost use Rattle.{sim_store.specs.{Pieces.Moves, Sink.SinkCounts}, std.specs.Prelude.{List, Option, ℕ}};
 
 use sim_store::Failed;
 

@@ -1,20 +1,19 @@
 -- What a realm keeps, from one state to the next.
+use Rattle.sim_territory.proofs.Common.{All, All-cons, All-get_or, All-head, All-map, All-nil, All-tail, All-weaker, and_from, and_parts, ap, AreHolders}
 use Rattle.sim_territory.proofs.Common.{AreInfluences, AreShifted, arith, Base, base_of, Bool, Born, Building, Cell, cells_of, cond, cond-false, div-add-mod'}
-use Rattle.sim_territory.proofs.Common.{IsTemplate, IsValid, IsValidRow, le-leb, leb-true, length, length-append, length-drop, length-map}
-use Rattle.sim_territory.proofs.Common.{[], All, All-cons, All-get_or, All-head, All-map, All-nil, All-tail, All-weaker, and_from, and_parts, ap, AreHolders}
 use Rattle.sim_territory.proofs.Common.{div-lt_iff_lt-mul, drop, false, FitShifts, flat_map, flat_map-cons, get_or, get_or-drop, get_or-flat_map, get_or-map}
 use Rattle.sim_territory.proofs.Common.{get_or-map-range_with_len, get_or-range_with_len, get_or-replicate, get_or-set_other, get_or-set_same, get_or-take}
 use Rattle.sim_territory.proofs.Common.{get_or_default, GivesNothing, Gone, HasShapeOf, holder, holder_at, holder_by, IfSome, influence, inl, inr}
 use Rattle.sim_territory.proofs.Common.{inside-on_ground, IsAscending, IsBuildingOf, IsFrom, IsKnownRow, IsMarkIn, IsOnGround, IsPlaceIn, IsSetup, IsSummed}
+use Rattle.sim_territory.proofs.Common.{IsTemplate, IsValid, IsValidRow, le-leb, leb-true, length, length-append, length-drop, length-map}
 use Rattle.sim_territory.proofs.Common.{length-map-range_with_len, length-range_with_len, length-replicate, length-take, length-take-le, List, lt-ltb, ltb-true}
 use Rattle.sim_territory.proofs.Common.{map, Mark, mark_in, mark_of, marks_ascend, marks_of, mod-lt, mul-add-lt, mul-le-mul_right, mul_comm, nat_le, nat_lt}
 use Rattle.sim_territory.proofs.Common.{ne_eqb, None, octile, Option, option_and_then, option_map, place-below, place_of, places-apart, range_with_len}
 use Rattle.sim_territory.proofs.Common.{reach_of, refl, replicate, Row, row_limit, same_from_place, same_lists, set, Setup, share, Shift, shifts_between, Size}
 use Rattle.sim_territory.proofs.Common.{size_in, size_of, slice_get, slice_get_cases, slice_range, Some, State, strength, subst, sum_at, sum_by, sum_by-cons}
 use Rattle.sim_territory.proofs.Common.{sum_follows, sum_place, SumFollows, Sums, sym, take, Template, template_of, true, unwrap_or, weight_born, weight_gone}
-use Rattle.sim_territory.proofs.Common.{zero-add, ℕ, ◌%◌, ◌&&◌, ◌*◌, ◌+◌, ◌-◌, ◌/◌, ◌<◌, ◌==◌, ◌∙◌, ◌∷◌, ◌≡◌, ◌≢◌, ◌≤◌, ◌⊎◌}
-use Rattle.sim_territory.proofs.{Following.mark_later, Holding.holder_by-is, Holding.holder_by-same, Moving.place-before, Moving.size-shape}
-use Rattle.sim_trail.proofs.PlacedRows.{known_row}
+use Rattle.sim_territory.proofs.{Common.{zero-add, ℕ, [], ◌%◌, ◌&&◌, ◌*◌, ◌+◌, ◌-◌, ◌/◌, ◌<◌, ◌==◌, ◌∙◌, ◌∷◌, ◌≡◌, ◌≢◌, ◌≤◌, ◌⊎◌}, Following.mark_later}
+use Rattle.{sim_territory.proofs.{Holding.{holder_by-is, holder_by-same}, Moving.{place-before, size-shape}}, sim_trail.proofs.PlacedRows.known_row}
 
 -- Each influence has a place of its own in the list, and each cell's holder is told by the influences there.
 

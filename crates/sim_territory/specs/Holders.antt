@@ -1,10 +1,9 @@
 -- Who holds a cell.
 use Rattle.sim_territory.specs.Common.{Cell, IsOnGround, IsSetup, list_all, Mark, neighbour, place_of, range_with_len, row_limit, Setup, Size, size_of}
-use Rattle.sim_territory.specs.{Common.Template, Influence.base_of, Influence.influence, Influence.share, Influence.template_of, Tables.IsMarkIn}
-use Rattle.sim_territory.specs.{Tables.IsPlaceIn, Tables.size_in, Tables.sum_at, declared.flood.Flood.Flood, declared.sums.Sums.Sums}
-use Rattle.std.specs.Prelude.{All, Bool, false, find, List, map, nat_lt, not, Some, true, Vec, ℕ, ◌&&◌, ◌*◌, ◌++◌, ◌+◌, ◌<◌, ◌==◌, ◌↔◌, ◌∷◌, ◌≡◌, ◌≢◌, ◌≤◌, ◌⊎◌}
-use Rattle.std.specs.Prelude.{[], Contains, count_by, filter, is_some, IsTrue, length, nat_le, option_and_then, slice_index, slice_index_or, unwrap_or, vec_len}
-use Rattle.std.specs.declared.alloc.Global.{Global}
+use Rattle.sim_territory.specs.{Common.Template, declared.{flood.Flood.Flood, sums.Sums.Sums}, Influence.{base_of, influence, share, template_of}}
+use Rattle.{sim_territory.specs.Tables.{IsMarkIn, IsPlaceIn, size_in, sum_at}, std.specs.{declared.alloc.Global.Global, Prelude.{All, Bool, Contains}}}
+use Rattle.std.specs.Prelude.{count_by, false, filter, find, is_some, IsTrue, length, List, map, nat_le, nat_lt, not, option_and_then, slice_index}
+use Rattle.std.specs.Prelude.{slice_index_or, Some, true, unwrap_or, Vec, vec_len, ℕ, [], ◌&&◌, ◌*◌, ◌++◌, ◌+◌, ◌<◌, ◌==◌, ◌↔◌, ◌∷◌, ◌≡◌, ◌≢◌, ◌≤◌, ◌⊎◌}
 
 -- a player has influence, and nobody has more
 abbrev pub has_most : ℕ → (ℕ → ℕ) → ℕ → Bool

@@ -1,8 +1,7 @@
 -- A table of influences, and how a building changes it.
-use Rattle.std.specs.Prelude.{sum_by}
-use Rattle.std.specs.Prelude.{◌≡◌, ℕ, ◌+◌, ◌-◌, ◌*◌, ◌^◌, ◌<◌, ◌≤◌, Bool, true, false, ◌&&◌, List, if◌then◌else◌, nat_lt, nat_le, ◌==◌, slice_index, All}
-use Rattle.sim_territory.specs.{Buildings.share_of, Influence.share, declared.building.Building.Building, declared.sums.Sums.Sums}
-use Rattle.sim_territory.specs.Common.{Born, Cell, Gone, IsOnGround, IsSetup, Mark, place_of, Setup, Shift, Size, weight_born, weight_gone}
+use Rattle.sim_territory.specs.{Buildings.share_of, Common.{Born, Cell, Gone, IsOnGround, IsSetup, Mark, place_of, Setup, Shift, Size, weight_born}}
+use Rattle.{sim_territory.specs.{Common.weight_gone, declared.{building.Building.Building, sums.Sums.Sums}, Influence.share}, std.specs.Prelude.All}
+use Rattle.std.specs.Prelude.{Bool, false, if◌then◌else◌, List, nat_le, nat_lt, slice_index, sum_by, true, ℕ, ◌&&◌, ◌*◌, ◌+◌, ◌-◌, ◌<◌, ◌==◌, ◌^◌, ◌≡◌, ◌≤◌}
 
 -- the ground of a table
 abbrev pub size_in : Sums → Size

@@ -3,8 +3,7 @@
 
 ghost use Rattle.std.specs.Prelude.{◌≡◌, ◌*◌, ◌<◌, ◌≤◌, length, vec_len};
 
-use sim_base::{Cell, OutOfMemory};
-use std::alloc::Global;
+use sim_base::{Cell, Global, OutOfMemory};
 
 /// The cells to which the flood has come, and those whose neighbours were not looked at yet.
 #[derive(Drop)]

@@ -7,9 +7,8 @@ ghost use Rattle.sim_territory.specs.Holders.{AreHolders};
 
 use crate::changes::mark_in;
 use crate::sums::Sums;
-use sim_base::{Cell, OutOfMemory, Setup};
+use sim_base::{Cell, Global, OutOfMemory, Setup};
 use sim_trail::Shift;
-use std::alloc::Global;
 
 // So many shifts change fewer cells than a large ground has.
 const FEW: usize = 32;
@@ -23,9 +22,8 @@ pub struct Influences {
 }
 
 impl Influences {
-    ghost use Rattle.std.specs.Prelude.{◌≡◌, ◌*◌, replicate, IfOk};
-    ghost use Rattle.sim_territory.specs.{Common.IsOnGround, Holders.holder_by};
-    ghost use Rattle.sim_territory.specs.Tables.{AreShifted, FitShifts, FitsShift, IsShifted, size_in, sum_at};
+    ghost use Rattle.sim_territory.specs.{Common.IsOnGround, Holders.holder_by, Tables.{AreShifted, FitShifts, FitsShift, IsShifted, size_in, sum_at}};
+    ghost use Rattle.std.specs.Prelude.{IfOk, replicate, ◌*◌, ◌≡◌};
 
     /// Nobody holds a cell where nobody has influence.
     pub fn new(alloc: Global, sums: Sums) -> Result<Influences, OutOfMemory>

@@ -7,9 +7,8 @@ use crate::flood::Flood;
 use crate::influences::Influences;
 use crate::roots::wet_roots;
 use crate::sums::Sums;
-use sim_base::{Items, OutOfMemory, Setup, State};
+use sim_base::{Global, Items, OutOfMemory, Setup, State};
 use sim_trail::Trail;
-use std::alloc::Global;
 use std::marker::Model;
 
 /// For each cell of a ground, by z, then x, whether it is rooted.

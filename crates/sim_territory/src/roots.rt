@@ -1,8 +1,7 @@
 //! The roots: obstructions of players that can train, on a cell that their owner holds. A flood begins there.
 
-ghost use Rattle.std.specs.Prelude.{[], OnOk, ◌≡◌};
-ghost use Rattle.sim_territory.specs.Holders.{AreInfluences, ground_size, holder_by, is_root_under, IsWetAt, roots_of};
-ghost use Rattle.sim_territory.specs.Tables.{IsMarkIn, size_in, sum_at};
+ghost use Rattle.sim_territory.specs.{Holders.{AreInfluences, ground_size, holder_by, is_root_under, IsWetAt, roots_of}, Tables.{IsMarkIn, size_in, sum_at}};
+ghost use Rattle.std.specs.Prelude.{OnOk, [], ◌≡◌};
 
 use crate::flood::Flood;
 use crate::influences::Influences;

@@ -4,9 +4,8 @@ ghost use Rattle.std.specs.Prelude.{◌≡◌, ◌*◌, ◌≤◌, vec_len};
 
 use crate::building::Building;
 use crate::changes::moved;
-use sim_base::{Cell, OutOfMemory, Setup};
+use sim_base::{Cell, Global, OutOfMemory, Setup};
 use sim_trail::{Mark, Shift};
-use std::alloc::Global;
 
 /// The influences of the players of a ground, from player 1 on.
 #[derive(Drop)]
@@ -22,11 +21,10 @@ pub struct Sums {
 }
 
 impl Sums {
+    ghost use Rattle.sim_territory.specs.{Buildings.share_of, Common.{IsOnGround, place_of}, Holders.{AreFound, AreFoundNear, AreHolders, holder_by}};
+    ghost use Rattle.sim_territory.specs.{Holders.IsBlockOf, Tables.{AreShifted, FitShifts, FitsShift, in_part, IsEntityOf, IsPlaceIn, IsShifted, MayShiftRow}};
+    ghost use Rattle.sim_territory.specs.Tables.{MaySumsMove, share_by, share_where, size_in, sum_at, sum_place, SumsMove};
     ghost use Rattle.std.specs.Prelude.{IfOk, replicate, slice_range, ◌*◌, ◌+◌, ◌-◌, ◌<◌, ◌==◌, ◌≡◌, ◌≤◌};
-    ghost use Rattle.sim_territory.specs.Tables.{AreShifted, FitShifts, FitsShift, in_part, IsEntityOf, IsPlaceIn, IsShifted, MayShiftRow, MaySumsMove};
-    ghost use Rattle.sim_territory.specs.Tables.{sum_at, sum_place};
-    ghost use Rattle.sim_territory.specs.{Buildings.share_of, Common.IsOnGround, Common.place_of, Holders.AreFound, Holders.AreFoundNear, Holders.AreHolders};
-    ghost use Rattle.sim_territory.specs.{Holders.IsBlockOf, Holders.holder_by, Tables.SumsMove, Tables.share_by, Tables.share_where, Tables.size_in};
 
     /// Nobody has influence anywhere.
     pub fn new(alloc: Global, width: u16, depth: u16, players: u8) -> Result<Sums, OutOfMemory>

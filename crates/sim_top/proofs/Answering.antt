@@ -1,15 +1,14 @@
 -- What a command answers: by the outcome that it makes, or by what ended it.
-use Rattle.sim_top.proofs.Common.{CausesOf, Counts, CountsBefore, EconomyRefused, File, file_in, file_of, Gave, GaveAll, GaveFor, GaveToState, HasEnded}
-use Rattle.sim_top.proofs.Common.{IsAnswerTo, IsFinished, IsMade, IsMadeAs, IsOfContent, IsOfList, IsOfMatch, IsOfState, IsOutcomeOf, IsReading, IsRefusal}
-use Rattle.sim_top.proofs.Common.{IsSavedAs, IsState, IsUnfound, LacksFirst, length_in, length_read, ListRefused, LogRefused, match_in, MatchRefused, MayAnswer}
-use Rattle.sim_top.proofs.Common.{MayFinish, NoFile, OnlyGave, out_of, Outcome, outcome_made, OutOfMemory, printed, ReadFault, reads_file, ReadsState, Saved}
-use Rattle.sim_top.proofs.Common.{Stop, Stopped, subst, sym, Then, ThenStored, to_session, to_try, TooLong, trial_match, trial_outcome, ◌∙◌}
-use Rattle.sim_top.proofs.Common.{session_match_in, session_text, Setup, Shelved, SightRefused, State, StateRefused, Status, status_of, StepList, steps_in}
-use Rattle.sim_top.proofs.Common.{◌≡◌, ℕ, ◌+◌, List, IfSome, IsTrue, Some, None, Ok, Err, Option, Result, option_map, refl, Answer, ap, Asked, bytes_in}
+use Rattle.sim_top.proofs.Common.{Answer, ap, Asked, bytes_in, CausesOf, Counts, CountsBefore, EconomyRefused, Err, File, file_in, file_of, Gave, GaveAll}
+use Rattle.sim_top.proofs.Common.{GaveFor, GaveToState, HasEnded, IfSome, IsAnswerTo, IsFinished, IsMade, IsMadeAs, IsOfContent, IsOfList, IsOfMatch, IsOfState}
+use Rattle.sim_top.proofs.Common.{IsOutcomeOf, IsReading, IsRefusal, IsSavedAs, IsState, IsTrue, IsUnfound, LacksFirst, length_in, length_read, List}
+use Rattle.sim_top.proofs.Common.{ListRefused, LogRefused, match_in, MatchRefused, MayAnswer, MayFinish, NoFile, None, Ok, OnlyGave, Option, option_map, out_of}
+use Rattle.sim_top.proofs.Common.{Outcome, outcome_made, OutOfMemory, printed, ReadFault, reads_file, ReadsState, refl, Result, Saved, session_match_in}
+use Rattle.sim_top.proofs.Common.{session_text, Setup, Shelved, SightRefused, Some, State, StateRefused, Status, status_of, StepList, steps_in, Stop, Stopped}
+use Rattle.sim_top.proofs.Common.{subst, sym, Then, ThenStored, to_session, to_try, TooLong, trial_match, trial_outcome, ℕ, ◌+◌, ◌∙◌, ◌≡◌}
 use Rattle.sim_top.proofs.Counting.{content_causes, counted_after, gave_both, gave_on, none_given, nothing_given}
 use Rattle.sim_top.proofs.Stopping.{state_ends, state_goes_on, Stopped-weaker, Then-ended, Then-read, Told, Told-both}
-use Rattle.sim_top.specs.{Reads.length_first, Words.has_match, Words.has_turn, Words.loads_state, Words.reads_list, declared.stop.Stop.TheVariants.NoSuchTurn}
-use Rattle.sim_top.specs.Making.{IsFileAs}
+use Rattle.sim_top.specs.{declared.stop.Stop.TheVariants.NoSuchTurn, Making.IsFileAs, Reads.length_first, Words.{has_match, has_turn, loads_state, reads_list}}
 use Rattle.sim_top.specs.declared.status.Status.TheVariants as status
 
 -- ---- a command that has made its outcome

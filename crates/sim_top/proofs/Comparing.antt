@@ -1,13 +1,12 @@
 -- Two stored states of a match, which are compared: the second is read where the first is a state.
-use Rattle.sim_top.proofs.Answering.{at_files, both_causes, both_given, both_told, comes_to, ends, gave_state, Loads, match_there, may_state}
-use Rattle.sim_top.proofs.Common.{◌+◌, ◌∙◌, ◌≡◌, Answer, bytes_in, compare_by, difference_of, EconomyRefused, Err, File, Gave, GaveToState, HoldsState, IfOk}
-use Rattle.sim_top.proofs.Common.{IfSome, IsAnswerTo, IsMade, IsOfState, IsOutcomeOf, IsReading, IsRefusal, IsRefused, IsState, LacksFirst, length, length_in}
-use Rattle.sim_top.proofs.Common.{length_read, List, ListRefused, LogRefused, match_in, MatchRefused, MayFinish, NoFile, None, Ok, Option, Outcome, OutOfMemory}
-use Rattle.sim_top.proofs.Common.{Place, ReadFault, ReadsState, refl, Result, Setup, Shelved, SightRefused, Some, State, StateRefused, Stop, Stopped, subst}
-use Rattle.sim_top.proofs.{Common.sym, Common.Then, Common.to_compare, Common.TooLong, Common.ℕ, Completeness.after_reading, Completeness.id_of_match}
-use Rattle.sim_top.proofs.{Completeness.not_refused, Counting.counted_after, Counting.gave_both, Counting.gave_on}
-use Rattle.sim_top.proofs.Stopping.{file_ends, file_goes_on, state_goes_on, Stopped-weaker, Then-ended, Told-all}
-use Rattle.sim_top.specs.{Outcome.IsCompared, declared.stop.Stop.TheVariants.NoSuchTurn}
+use Rattle.sim_top.proofs.{Answering.{at_files, both_causes, both_given, both_told, comes_to, ends, gave_state, Loads, match_there, may_state}, Common.Answer}
+use Rattle.sim_top.proofs.Common.{bytes_in, compare_by, difference_of, EconomyRefused, Err, File, Gave, GaveToState, HoldsState, IfOk, IfSome, IsAnswerTo}
+use Rattle.sim_top.proofs.Common.{IsMade, IsOfState, IsOutcomeOf, IsReading, IsRefusal, IsRefused, IsState, LacksFirst, length, length_in, length_read, List}
+use Rattle.sim_top.proofs.Common.{ListRefused, LogRefused, match_in, MatchRefused, MayFinish, NoFile, None, Ok, Option, Outcome, OutOfMemory, Place, ReadFault}
+use Rattle.sim_top.proofs.Common.{ReadsState, refl, Result, Setup, Shelved, SightRefused, Some, State, StateRefused, Stop, Stopped, subst, sym, Then}
+use Rattle.sim_top.proofs.{Common.{to_compare, TooLong, ℕ, ◌+◌, ◌∙◌, ◌≡◌}, Completeness.{after_reading, id_of_match, not_refused}, Counting.counted_after}
+use Rattle.sim_top.proofs.{Counting.{gave_both, gave_on}, Stopping.{file_ends, file_goes_on, state_goes_on, Stopped-weaker, Then-ended, Told-all}}
+use Rattle.sim_top.specs.{declared.stop.Stop.TheVariants.NoSuchTurn, Outcome.IsCompared}
 
 -- what comes of the first state
 abbrev pub with_second : List ℕ → List File → Setup → State → Outcome → Type 0

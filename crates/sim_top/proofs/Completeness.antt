@@ -1,20 +1,18 @@
 -- Where each file that is read is good and no fault was counted, a run came to its end or there was no memory.
 use Rattle.sim_codec.specs.declared.fault.StateFault.TheVariants as stored
-use Rattle.sim_territory.proofs.{Holding.holder_by-holds, Keeping.length-mapped, Keeping.mapped_at}
-use Rattle.sim_territory.specs.{Holders.IsHolder, Holders.holder, Influence.influence, Realms.holders_in}
-use Rattle.sim_top.proofs.Common.{IsFaultless, IsFinal, IsLogged, IsOutcomeOf, IsReady, IsRealmOutcome, IsResighted, IsStored, le-ltb, length, List, Log}
-use Rattle.sim_top.proofs.Common.{Territories, Then, ThenLog, ThenStored, to_check, to_compare, to_film, to_log, to_parts, to_play, to_realm, to_record}
-use Rattle.sim_top.proofs.Common.{after, ap, Apart, apart_by, Appends, arith, Asked, asked_by, bytes_in, cases_lt, Causes, compare_by, cond-true, Counts}
-use Rattle.sim_top.proofs.Common.{difference_of, Differs, digests_after, Done, economy_in, Err, File, first_apart, HasEnded, HoldsState, IfOk, inl, inr}
-use Rattle.sim_top.proofs.Common.{log_by, lt-ltb, ltb, map_at, match_in, Meets, None, NoSuchTurn, OfRealm, Ok, Option, Outcome, own_turns, Place, printed}
-use Rattle.sim_top.proofs.Common.{raised, realm_of, RealmAt, refl, refusal_text, rejoin_outcome, Result, Scene, schedule_in, session_match_in, Setup, setup_by}
-use Rattle.sim_top.proofs.Common.{setup_of, sight_outcome, Some, State, state_by, StateFault, Status, steps_in, store_outcome, subst, sym, TellsRealm}
-use Rattle.sim_top.proofs.Common.{to_rejoin, to_resight, to_resume, to_serve, to_session, to_show, to_sight, to_stock, to_store, to_try, trial_match, Turn}
-use Rattle.sim_top.proofs.Common.{turn_by, Usage, WriteFault, ℕ, ◌<◌, ◌∙◌, ◌≡◌, ◌≤◌, ◌⊎◌}
+use Rattle.{sim_base.specs.Rows.size_of, sim_codec.{proofs.Standing.no_fault, specs.Loading.StandsFor}, sim_setup.proofs.LandLimits.setup_of-id}
+use Rattle.sim_territory.{proofs.{Holding.holder_by-holds, Keeping.{length-mapped, mapped_at}}, specs.{Holders.{holder, IsHolder}, Influence.influence}}
+use Rattle.{sim_territory.specs.Realms.holders_in, sim_top.proofs.Common.{after, ap, Apart, apart_by, Appends, arith, Asked, asked_by, bytes_in, cases_lt}}
+use Rattle.sim_top.proofs.Common.{Causes, compare_by, cond-true, Counts, difference_of, Differs, digests_after, Done, economy_in, Err, File, first_apart}
+use Rattle.sim_top.proofs.Common.{HasEnded, HoldsState, IfOk, inl, inr, IsFaultless, IsFinal, IsLogged, IsOutcomeOf, IsReady, IsRealmOutcome, IsResighted}
+use Rattle.sim_top.proofs.Common.{IsStored, le-ltb, length, List, Log, log_by, lt-ltb, ltb, map_at, match_in, Meets, None, NoSuchTurn, OfRealm, Ok, Option}
+use Rattle.sim_top.proofs.Common.{Outcome, own_turns, Place, printed, raised, realm_of, RealmAt, refl, refusal_text, rejoin_outcome, Result, Scene, schedule_in}
+use Rattle.sim_top.proofs.Common.{session_match_in, Setup, setup_by, setup_of, sight_outcome, Some, State, state_by, StateFault, Status, steps_in}
+use Rattle.sim_top.proofs.Common.{store_outcome, subst, sym, TellsRealm, Territories, Then, ThenLog, ThenStored, to_check, to_compare, to_film, to_log}
+use Rattle.sim_top.proofs.Common.{to_parts, to_play, to_realm, to_record, to_rejoin, to_resight, to_resume, to_serve, to_session, to_show, to_sight, to_stock}
+use Rattle.sim_top.proofs.{Common.{to_store, to_try, trial_match, Turn, turn_by, Usage, WriteFault, ℕ, ◌<◌, ◌∙◌, ◌≡◌, ◌≤◌, ◌⊎◌}, Playing.turn_there}
 use Rattle.sim_top.specs.declared.status.Status.TheVariants.{EconomyRefused, ListRefused, LogRefused, MatchRefused, NoFile, OutOfMemory, ReadFault}
-use Rattle.sim_top.specs.{Headline.marks_at, Outcome.match_by, Reads.HoldsLog, declared.status.Status.TheVariants.SightRefused}
-use Rattle.sim_top.{proofs.Playing.turn_there, specs.declared.status.Status.TheVariants.StateRefused, specs.declared.status.Status.TheVariants.TooLong}
-use Rattle.{sim_base.specs.Rows.size_of, sim_codec.proofs.Standing.no_fault, sim_codec.specs.Loading.StandsFor, sim_setup.proofs.LandLimits.setup_of-id}
+use Rattle.sim_top.specs.{declared.status.Status.TheVariants.{SightRefused, StateRefused, TooLong}, Headline.marks_at, Outcome.match_by, Reads.HoldsLog}
 
 -- an outcome with which a command comes to its end
 abbrev Ends : Outcome → Type 0

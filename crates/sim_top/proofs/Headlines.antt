@@ -1,12 +1,11 @@
 -- What the sink was told of a session that came to its end, and what the laws of sessions say of it.
 use Rattle.sim_plain_session.proofs.{Arrived.server_is_after_arrivals, Enabling.events_are_of_steps, GoingOn.events_are_in_order}
-use Rattle.sim_session.proofs.{Differing.apart_where_different, Noticing.notices_are_of_reports, Showing.ends_show_pasts, Showing.plays_are_told}
-use Rattle.sim_session.{proofs.Showing.starts_show_pasts, proofs.Showing.steps_are_told, proofs.Showing.steps_show_pasts, specs.Laws.session_at}
-use Rattle.sim_session_laws.proofs.{CutSteps.holds_session, Fitting.no_state_is_ever_refused, Fitting.unbent_agree}
+use Rattle.sim_session.proofs.{Differing.apart_where_different, Noticing.notices_are_of_reports}
+use Rattle.sim_session.{proofs.Showing.{ends_show_pasts, plays_are_told, starts_show_pasts, steps_are_told, steps_show_pasts}, specs.Laws.session_at}
+use Rattle.sim_session_laws.proofs.{CutSteps.holds_session, Fitting.{no_state_is_ever_refused, unbent_agree}}
 use Rattle.sim_top.proofs.Common.{Appends, Asked, Differs, Done, Err, File, HasEnded, Headline, IfOk, IsOutcomeOf, IsSetup, IsStepList, List, Meets, OfSession}
 use Rattle.sim_top.proofs.Common.{Ok, Option, Outcome, printed, Result, Scene, session_match_in, session_of, session_text, Setup, Some, Status, StepList}
-use Rattle.sim_top.proofs.Common.{steps_in, subst, Then, to_session, ℕ, ◌≡◌}
-use Rattle.sim_top.specs.Outcome.{IsOutcome}
+use Rattle.sim_top.{proofs.Common.{steps_in, subst, Then, to_session, ℕ, ◌≡◌}, specs.Outcome.IsOutcome}
 
 -- a match and steps within their limits
 pub lawful : (setup : Setup) (list : StepList) (told told' : Option (List ℕ)) → IsSetup setup → IsStepList setup.players list

@@ -1,14 +1,13 @@
 -- What the sink was told of a log and what is stored of it, in the words of the rules.
-use Rattle.sim_top.proofs.Common.{File, first_apart, HasEnded, IfOk, inl, inr, IsDone, IsLogged, IsOutcomeOf, length, List, Log, log_after, log_by, logged_as}
-use Rattle.sim_top.proofs.Common.{[], ap, Apart, apart_by, Appends, arith, Asked, asked_by, bytes_in, check_outcome, codes, Differs, digests_after, Done, Err}
-use Rattle.sim_top.proofs.Common.{match_in, match_turns, Meets, None, Ok, Option, Outcome, refl, Result, Scene, session_match_in, session_of, Setup, Some}
-use Rattle.sim_top.proofs.Common.{state_after, Status, StepList, steps_in, subst, suc, sym, take, TellsLogs, Then, ThenLog, to_check, to_log, to_record, ℕ, ◌∙◌}
+use Rattle.sim_base.specs.{declared.command.PlayerCommand.PlayerCommand, Spelling.digest}
+use Rattle.{sim_replay.{proofs.Aparts.{first_is, none_apart}, specs.{Apart.IsFirstApart, Logs.IsLog}}, sim_report.specs.Lines.apart_lines}
+use Rattle.{sim_session.specs.Recording.released_turns, sim_top.proofs.Common.{ap, Apart, apart_by, Appends, arith, Asked, asked_by, bytes_in, check_outcome}}
+use Rattle.sim_top.proofs.Common.{codes, Differs, digests_after, Done, Err, File, first_apart, HasEnded, IfOk, inl, inr, IsDone, IsLogged, IsOutcomeOf, length}
+use Rattle.sim_top.proofs.Common.{List, Log, log_after, log_by, logged_as, match_in, match_turns, Meets, None, Ok, Option, Outcome, refl, Result, Scene}
+use Rattle.sim_top.proofs.Common.{session_match_in, session_of, Setup, Some, state_after, Status, StepList, steps_in, subst, suc, sym, take, TellsLogs, Then}
+use Rattle.sim_top.proofs.{Common.{ThenLog, to_check, to_log, to_record, ℕ, [], ◌∙◌, ◌≡◌, ◌≤◌, ◌⊎◌}, Sights.{file_end, no_end}}
 use Rattle.sim_top.specs.Headline.{Agrees, Disagrees, IsChecked, IsFirstWrong, IsRight, IsStored}
-use Rattle.std.proofs.lemmas.{List.FromFn.get_or-map-range_with_len, List.FromFn.length-map-range_with_len, Option.slice_get-get_or}
-use Rattle.{sim_base.specs.Spelling.digest, sim_base.specs.declared.command.PlayerCommand.PlayerCommand, sim_replay.proofs.Aparts.first_is}
-use Rattle.{sim_replay.proofs.Aparts.none_apart, sim_replay.specs.Apart.IsFirstApart, sim_replay.specs.Logs.IsLog, sim_report.specs.Lines.apart_lines}
-use Rattle.{sim_session.specs.Recording.released_turns, sim_top.proofs.Common.◌≡◌, sim_top.proofs.Common.◌≤◌, sim_top.proofs.Common.◌⊎◌}
-use Rattle.{sim_top.proofs.Sights.file_end, sim_top.proofs.Sights.no_end, std.specs.Prelude.slice_get}
+use Rattle.std.{proofs.lemmas.{List.FromFn.{get_or-map-range_with_len, length-map-range_with_len}, Option.slice_get-get_or}, specs.Prelude.slice_get}
 
 stored_so : (word : List ℕ) (setup : Setup) (turns : List (List PlayerCommand)) (out : List ℕ) (wanted : Outcome) (before now : Scene)
     → wanted ≡ logged_as word setup out (log_after setup turns) → IsDone wanted before now → IsStored word setup turns out before now

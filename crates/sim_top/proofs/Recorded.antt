@@ -1,17 +1,15 @@
 -- A session that is recorded: its match and its steps were read and it was run and its log made, or one of them could not be read; the
 -- turns that it released are turns of the match; and what has become of the rigs with which it was run, the first of which plays the log.
-use Rattle.sim_session.specs.{Going.rigs_by, Laws.AllBuiltAtMost, Laws.AreBuiltAtMost, Recording.released_turns}
-use Rattle.sim_top.proofs.Answering.{Opens, both_causes, both_given, both_same, both_told, comes_to, list_ends_at, match_there}
-use Rattle.sim_top.proofs.Common.{IsReading, IsStepList, length, List, log_after, logged_as, map, Ok, OnOk, Outcome, refl, Result, session_match_in, session_of}
-use Rattle.sim_top.proofs.Common.{Setup, Shelved, Some, State, state_after, StepList, steps_in, Stop, Stopped, subst, suc, sym, systems_by, Then, to_record, ℕ}
-use Rattle.sim_top.proofs.Common.{[], All, Answer, ap, AreFed, arith, codes, drop, Err, File, IfOk, IfSome, IsAnswerTo, IsMade, IsOfList, IsOutcomeOf}
-use Rattle.sim_top.proofs.{Common.◌∙◌, Common.◌∷◌, Common.◌≡◌, Common.◌≤◌, Stopping.Stopped-weaker, Stopping.Then-ended, Stopping.Then-read, Stopping.Told-both}
-use Rattle.std.proofs.{Common.zero, Common.◌-◌, Math.Seq.drop-nil, lemmas.List.Elements.All-drop, lemmas.List.Elements.All-map}
-use Rattle.std.specs.{List.range_with_len, Prelude.if◌then◌else◌, Prelude.slice_index_or, Prelude.◌==◌}
-use Rattle.{sim_client.specs.StageWords.AreCleared, sim_client.specs.StageWords.nowhere, sim_laws.specs.TurnLaws.IsOrderOf}
-use Rattle.{sim_session.proofs.Builds.never_built, sim_session.proofs.Builds.once_built, sim_session_laws.proofs.CutSteps.holds_session}
-use Rattle.{sim_system.specs.Meanings.Meaning, sim_system.specs.declared.rig.Rig.Rig, sim_top.specs.Outcome.IsRecordedBy, sim_top.specs.Stops.HasPlayedBy}
-use Rattle.{sim_top.specs.Stops.OfFirsts, std.proofs.lemmas.List.FromFn.length-map-range_with_len, std.proofs.lemmas.List.drop-map}
+use Rattle.{sim_client.specs.StageWords.{AreCleared, nowhere}, sim_laws.specs.TurnLaws.IsOrderOf}
+use Rattle.sim_session.{proofs.Builds.{never_built, once_built}, specs.{Going.rigs_by, Laws.{AllBuiltAtMost, AreBuiltAtMost}, Recording.released_turns}}
+use Rattle.{sim_session_laws.proofs.CutSteps.holds_session, sim_system.specs.{declared.rig.Rig.Rig, Meanings.Meaning}}
+use Rattle.sim_top.proofs.{Answering.{both_causes, both_given, both_same, both_told, comes_to, list_ends_at, match_there, Opens}, Common.{All, Answer, ap}}
+use Rattle.sim_top.proofs.Common.{AreFed, arith, codes, drop, Err, File, IfOk, IfSome, IsAnswerTo, IsMade, IsOfList, IsOutcomeOf, IsReading, IsStepList, length}
+use Rattle.sim_top.proofs.Common.{List, log_after, logged_as, map, Ok, OnOk, Outcome, refl, Result, session_match_in, session_of, Setup, Shelved, Some, State}
+use Rattle.sim_top.proofs.Common.{state_after, StepList, steps_in, Stop, Stopped, subst, suc, sym, systems_by, Then, to_record, ℕ, [], ◌∙◌, ◌∷◌, ◌≡◌, ◌≤◌}
+use Rattle.sim_top.{proofs.Stopping.{Stopped-weaker, Then-ended, Then-read, Told-both}, specs.{Outcome.IsRecordedBy, Stops.{HasPlayedBy, OfFirsts}}}
+use Rattle.std.proofs.{Common.{zero, ◌-◌}, lemmas.List.{drop-map, Elements.{All-drop, All-map}, FromFn.length-map-range_with_len}, Math.Seq.drop-nil}
+use Rattle.std.specs.{List.range_with_len, Prelude.{if◌then◌else◌, slice_index_or, ◌==◌}}
 
 module _ (game steps out : List ℕ) where
   -- what comes of the steps

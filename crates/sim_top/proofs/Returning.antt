@@ -1,19 +1,17 @@
 -- How the rigs of a command come back: as they were, with the first played, with the first two played, and of a session.
 use Rattle.sim_top.specs.declared.status.Status.TheVariants as status
 use Rattle.sim_top.specs.declared.stop.Stop.TheVariants as stops
-use Rattle.sim_session.{proofs.Stepping.built_same, specs.Going.rigs_by, specs.Laws.AllBuiltAtMost, specs.Laws.AllStand, specs.Laws.builds_of}
-use Rattle.sim_system.specs.{Meanings.AreBuiltOnceAtMost, Meanings.Meaning, declared.rig.Rig.Rig}
+use Rattle.sim_session.{proofs.Stepping.built_same, specs.{Going.rigs_by, Laws.{AllBuiltAtMost, AllStand, builds_of}}}
+use Rattle.sim_system.specs.{declared.rig.Rig.Rig, Meanings.{AreBuiltOnceAtMost, Meaning}}
+use Rattle.sim_top.proofs.Common.{All, Answer, ap, AreFed, arith, Asked, bytes_in, drop, end_from, Err, false≢true, File, Global, HasEnded, HaveKinds, IfOk}
 use Rattle.sim_top.proofs.Common.{IfSome, inl, inr, IsHostedBy, IsMade, IsMadeAs, IsSettled, IsSetup, IsState, IsStepList, IsUnplayed, length, List, map, None}
 use Rattle.sim_top.proofs.Common.{OfSession, Ok, OnOk, Option, Outcome, outcome_made, refl, Result, RigsCameBackBy, session_match_in, session_of, Setup, Some}
 use Rattle.sim_top.proofs.Common.{StandForStored, State, Status, status_made, status_of, StepList, steps_in, Stop, subst, suc, sym, Systems, systems_by}
-use Rattle.sim_top.proofs.Common.{[], All, Answer, ap, AreFed, arith, Asked, bytes_in, drop, end_from, Err, false≢true, File, Global, HasEnded, HaveKinds, IfOk}
 use Rattle.sim_top.proofs.Common.{to_check, to_compare, to_film, to_log, to_parts, to_play, to_realm, to_record, to_rejoin, to_resight, to_resume, to_serve}
-use Rattle.sim_top.proofs.Common.{to_session, to_show, to_sight, to_stock, to_store, to_try, used, Vec, ℕ, ◌<◌, ◌∙◌, ◌∷◌, ◌≡◌, ◌≤◌}
-use Rattle.sim_top.proofs.Finishing.{ended_settled, stopped_not_ended, unplayed_settled}
-use Rattle.sim_top.specs.Stops.{OfFirsts, RigStands, SecondStands, clients}
-use Rattle.sim_top.specs.{Outcome.IsRecordedBy, Outcome.OfRecord, Outcome.builds_with_log, Returning.AreOfSession, Stops.AreEightBy, Stops.HasPlayedBy}
-use Rattle.std.proofs.lemmas.List.Elements.{All-cons, All-head, All-nil, All-tail}
-use Rattle.std.{proofs.Math.ListN.drop_of_length-le, specs.Prelude.vec_capacity}
+use Rattle.sim_top.proofs.Common.{to_session, to_show, to_sight, to_stock, to_store, to_try, used, Vec, ℕ, [], ◌<◌, ◌∙◌, ◌∷◌, ◌≡◌, ◌≤◌}
+use Rattle.sim_top.{proofs.Finishing.{ended_settled, stopped_not_ended, unplayed_settled}, specs.Outcome.{builds_with_log, IsRecordedBy, OfRecord}}
+use Rattle.sim_top.specs.{Returning.AreOfSession, Stops.{AreEightBy, clients, HasPlayedBy, OfFirsts, RigStands, SecondStands}}
+use Rattle.std.{proofs.{lemmas.List.Elements.{All-cons, All-head, All-nil, All-tail}, Math.ListN.drop_of_length-le}, specs.Prelude.vec_capacity}
 
 -- ---- by the status
 

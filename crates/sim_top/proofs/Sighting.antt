@@ -1,19 +1,17 @@
 -- What the players see: at a turn that a match has, and from a stored state on with explored cells, which are read where there is a state.
 use Rattle.sim_vision.specs.declared.fault.SightFault.TheVariants as sights
-use Rattle.sim_top.proofs.Answering.{both_causes, both_given, both_told, comes_to_one, ends, Loads, match_there}
+use Rattle.{sim_play.specs.Lines.sight_text, sim_top.proofs.Answering.{both_causes, both_given, both_told, comes_to_one, ends, Loads, match_there}}
 use Rattle.sim_top.proofs.Common.{Answer, ap, Asked, Bool, bytes_in, cond, cond-false, cond-true, Counts, Done, EconomyRefused, Err, false, File, Gave, GaveFor}
 use Rattle.sim_top.proofs.Common.{Global, HasEnded, IfErr, IfOk, IfSome, inl, inr, IsAnswerTo, IsMadeAs, IsOfMap, IsOutcomeOf, IsReading, IsRefusal}
 use Rattle.sim_top.proofs.Common.{IsResighted, IsSeenFrom, IsState, IsTrue, LacksFirst, le-ltb, length, length_in, length_read, List, ListRefused, LogRefused}
-use Rattle.sim_top.proofs.Common.{Outcome, outcome_made, OutOfMemory, printed, ReadFault, reads_file, refl, refusal_of, refusal_text, resight_text, Result}
-use Rattle.sim_top.proofs.Common.{String, string_bytes, subst, sym, Then, to_resight, TooLong, true, Turn, Vec, Vision, ℕ, ◌+◌, ◌<◌, ◌∙◌, ◌≡◌, ◌≤◌, ◌⊎◌}
 use Rattle.sim_top.proofs.Common.{lt-ltb, ltb, map_at, map_by, match_in, MatchRefused, MayAnswer, MayFinish, NoFile, None, NoSuchTurn, Ok, OnErr, Option}
+use Rattle.sim_top.proofs.Common.{Outcome, outcome_made, OutOfMemory, printed, ReadFault, reads_file, refl, refusal_of, refusal_text, resight_text, Result}
 use Rattle.sim_top.proofs.Common.{seen_with, Setup, Shelved, sight_outcome, SightFault, SightRefused, Some, State, StateRefused, status_of, Stop, Stopped}
-use Rattle.sim_top.proofs.Stopping.{state_goes_on, Stopped-weaker, Then-ended, Then-read, Told-all}
+use Rattle.sim_top.proofs.Common.{String, string_bytes, subst, sym, Then, to_resight, TooLong, true, Turn, Vec, Vision, ℕ, ◌+◌, ◌<◌, ◌∙◌, ◌≡◌, ◌≤◌, ◌⊎◌}
+use Rattle.sim_top.proofs.{Counting.{counted_after, gave_both, gave_on}, Stopping.{state_goes_on, Stopped-weaker, Then-ended, Then-read, Told-all}}
+use Rattle.{sim_vision.specs.Vision.{cells_in, joined_at}, std.proofs.{Common.{eqb, not, ◌*◌}, lemmas.Bool.eqb-true}}
 use Rattle.sim_top.specs.{Outcome.seen_at, Stops.IsJoined, Stops.map_stop, Words.reads_map, declared.stop.Stop.TheVariants.NoSuchTurn as NoTurn}
-use Rattle.std.proofs.lemmas.Bool.{eqb-true}
 use Rattle.{sim_base.specs.declared.memory.OutOfMemory.OutOfMemory as NoMemory, sim_base.specs.declared.state.Row.Row, sim_play.specs.Lines.sight_file}
-use Rattle.{sim_play.specs.Lines.sight_text, sim_top.proofs.Counting.counted_after, sim_top.proofs.Counting.gave_both, sim_top.proofs.Counting.gave_on}
-use Rattle.{sim_vision.specs.Vision.cells_in, sim_vision.specs.Vision.joined_at, std.proofs.Common.eqb, std.proofs.Common.not, std.proofs.Common.◌*◌}
 
 -- ---- a turn of a match
 

@@ -1,13 +1,11 @@
 -- What is made of the words before anything is written, what a command answers to what is asked, and what reading a file says of the
 -- shelf: the facts of each call by name.
-use Rattle.sim_top.specs.Common.{Counts, File, IsSetup, IsValid, Setup, State, file_in, usage_text}
-use Rattle.sim_top.specs.Making.{IsFileAs, IsFinished, IsSavedAs, IsUsageMade, Makes, MeetsBefore, SavesIfDone, file_of, status_made}
-use Rattle.sim_top.specs.declared.{commands.Saved.Saved, status.Status.Status, status.Status.TheVariants.WriteFault, stop.Stop.Stop}
-use Rattle.sim_top.specs.{Outcome.IsOutcomeOf, Outcome.Outcome, Reads.CountsBefore, Reads.GaveFor, Reads.GaveForWords, Reads.IsSilent, Reads.IsUnfound}
-use Rattle.sim_top.specs.{Reads.LacksFirst, Reads.LacksMatch, Reads.MayAnswer, Reads.MayEnd, Reads.length_in, Stops.CausesOf, Stops.GaveAll, Stops.IsMissed}
-use Rattle.sim_top.specs.{Stops.IsOfContent, Stops.Reads, Words.Asked, Words.asked_by, Words.out_of, declared.commands.Answer.Answer}
-use Rattle.std.specs.Prelude.{[], Err, false, IfErr, IfOk, IfSome, List, None, Option, option_map, Result, Some, ℕ, ◌≡◌, ◌≢◌}
-use Rattle.std.specs.Str.{is_utf8}
+use Rattle.sim_top.specs.Common.{Counts, File, file_in, IsSetup, IsValid, Setup, State, usage_text}
+use Rattle.sim_top.specs.declared.{commands.{Answer.Answer, Saved.Saved}, status.Status.{Status, TheVariants.WriteFault}, stop.Stop.Stop}
+use Rattle.sim_top.specs.Making.{file_of, IsFileAs, IsFinished, IsSavedAs, IsUsageMade, Makes, MeetsBefore, SavesIfDone, status_made}
+use Rattle.sim_top.specs.{Outcome.{IsOutcomeOf, Outcome}, Reads.{CountsBefore, GaveFor, GaveForWords, IsSilent, IsUnfound, LacksFirst, LacksMatch, length_in}}
+use Rattle.sim_top.specs.{Reads.{MayAnswer, MayEnd}, Stops.{CausesOf, GaveAll, IsMissed, IsOfContent, Reads}, Words.{Asked, asked_by, out_of}}
+use Rattle.std.specs.{Prelude.{Err, false, IfErr, IfOk, IfSome, List, None, Option, option_map, Result, Some, ℕ, [], ◌≡◌, ◌≢◌}, Str.is_utf8}
 
 -- what a shelf holds, where it tells it, and what it has counted
 pub record Shelved : Type 0 where

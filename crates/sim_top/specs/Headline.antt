@@ -5,24 +5,20 @@
 use Rattle.sim_base.specs.declared.step.Event.TheVariants as event
 use Rattle.sim_base.specs.declared.step.Step.TheVariants as step
 use Rattle.sim_session.specs.declared.ending.End.TheVariants as end
-use Rattle.sim_base.specs.{Places.IsOnGround, Rows.size_of, Turn.turns_in, declared.command.PlayerCommand.PlayerCommand, declared.place.Cell.Cell}
-use Rattle.sim_session.specs.Laws.{clients_apart, ending_lines, events_of, IsStepAt, PlayIsTold, session_at, ShowsPast, StandsAt, step_events}
-use Rattle.sim_top.specs.Common.{after, agree_line, apart_lines, Appends, digest, Economy, end_from, File, film_text, HeldSet, IsLog, Log, log_after}
-use Rattle.sim_top.specs.Common.{logged_line, match_turns, own_turns, parts_text, refusal_of, released_turns, session_of, Setup, State, state_after, StepList}
-use Rattle.sim_top.specs.{Common.stock_text, Common.text_of_log, Outcome.bytes_in, Outcome.economy_in, Outcome.match_in, Outcome.session_match_in}
-use Rattle.sim_top.specs.{Outcome.steps_in, Reads.Scene, Stops.IsState, Words.Asked, Words.to_check, Words.to_film, Words.to_log, Words.to_parts}
-use Rattle.sim_top.specs.{Words.to_realm, Words.to_record, Words.to_resight, Words.to_sight, Words.to_stock, declared.status.Status.Status}
-use Rattle.sim_vision.specs.{Keeping.extent_in, Told.sight_lines, Vision.all_seen, Vision.is_set, Vision.is_visible, Vision.was_visible, Watching.flag_in}
-use Rattle.std.specs.Prelude.{[], Bool, codes, flat_map, IfOk, length, List, map, None, Ok, Option, slice_get, Some, take, ℕ, ◌*◌, ◌++◌, ◌-◌, ◌<◌, ◌||◌, ◌↔◌}
-use Rattle.{sim_base.specs.declared.step.Event.Event, sim_plain_session.specs.Sessions.Carries, sim_plain_session.specs.Sessions.IsOfStep}
-use Rattle.{sim_base.specs.declared.step.Step.Step, sim_territory.specs.Influence.influence, sim_trail.specs.declared.mark.Mark.Mark, std.specs.Prelude.◌∷◌}
-use Rattle.{sim_plain.specs.Server.notices, sim_play.specs.Lines.states_to, sim_trail.specs.Shifts.marks_of, sim_vision.specs.Watching.one_if}
-use Rattle.{sim_plain.specs.Server.server_after, sim_play.specs.Realms.realm_lines, sim_report.specs.Lines.event_line, sim_stock.specs.PaidTurns.kept_past}
-use Rattle.{sim_plain.specs.Server.up_to, std.specs.List.enumerate_from, std.specs.Prelude.◌≡◌, std.specs.Prelude.◌≤◌, std.specs.Prelude.◌⊎◌}
-use Rattle.{sim_plain_session.specs.Clients.On, sim_top.specs.declared.status.Status.TheVariants.Differs, sim_top.specs.declared.status.Status.TheVariants.Done}
-use Rattle.{sim_plain_session.specs.Clients.Seat, sim_session.specs.Endings.end_of, sim_territory.specs.Holders.IsHolder, sim_territory.specs.Holders.holder_at}
-use Rattle.{sim_plain_session.specs.Pasts.rules_of, sim_play.specs.Lines.later_of, sim_stock.specs.PaidTurns.books_after, sim_territory.specs.Holders.AreRooted}
-use Rattle.{sim_plain_session.specs.Sessions.notices_in, sim_session_laws.specs.Standing.NoStateIsRefused, sim_session_laws.specs.Standing.UnbentAgree}
+use Rattle.sim_base.specs.{declared.{command.PlayerCommand.PlayerCommand, place.Cell.Cell, step.{Event.Event, Step.Step}}, Places.IsOnGround, Rows.size_of}
+use Rattle.{sim_base.specs.Turn.turns_in, sim_plain.specs.Server.{notices, server_after, up_to}}
+use Rattle.sim_plain_session.specs.{Clients.{On, Seat}, Pasts.rules_of, Sessions.{Carries, IsOfStep, notices_in}}
+use Rattle.{sim_play.specs.{Lines.{later_of, states_to}, Realms.realm_lines}, sim_report.specs.Lines.event_line}
+use Rattle.sim_session.specs.{Endings.end_of, Laws.{clients_apart, ending_lines, events_of, IsStepAt, PlayIsTold, session_at, ShowsPast, StandsAt, step_events}}
+use Rattle.{sim_session_laws.specs.Standing.{NoStateIsRefused, UnbentAgree}, sim_stock.specs.PaidTurns.{books_after, kept_past}}
+use Rattle.{sim_territory.specs.{Holders.{AreRooted, holder_at, IsHolder}, Influence.influence}, sim_top.specs.Common.{after, agree_line, apart_lines, Appends}}
+use Rattle.sim_top.specs.Common.{digest, Economy, end_from, File, film_text, HeldSet, IsLog, Log, log_after, logged_line, match_turns, own_turns, parts_text}
+use Rattle.sim_top.specs.Common.{refusal_of, released_turns, session_of, Setup, State, state_after, StepList, stock_text, text_of_log}
+use Rattle.sim_top.specs.{declared.status.Status.{Status, TheVariants.{Differs, Done}}, Outcome.{bytes_in, economy_in, match_in, session_match_in, steps_in}}
+use Rattle.sim_top.specs.{Reads.Scene, Stops.IsState, Words.{Asked, to_check, to_film, to_log, to_parts, to_realm, to_record, to_resight, to_sight, to_stock}}
+use Rattle.{sim_trail.specs.{declared.mark.Mark.Mark, Shifts.marks_of}, sim_vision.specs.{Keeping.extent_in, Told.sight_lines, Vision.{all_seen, is_set}}}
+use Rattle.{sim_vision.specs.{Vision.{is_visible, was_visible}, Watching.{flag_in, one_if}}, std.specs.{List.enumerate_from, Prelude.{Bool, codes, flat_map}}}
+use Rattle.std.specs.Prelude.{IfOk, length, List, map, None, Ok, Option, slice_get, Some, take, ℕ, [], ◌*◌, ◌++◌, ◌-◌, ◌<◌, ◌||◌, ◌↔◌, ◌∷◌, ◌≡◌, ◌≤◌, ◌⊎◌}
 
 -- what the sink has been told, and after the session what it is told then
 pub record Headline (setup : Setup) (list : StepList) (told told' : Option (List ℕ)) : Type 0 where

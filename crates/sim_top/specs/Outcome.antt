@@ -3,23 +3,22 @@
 use Rattle.sim_codec.specs.declared.fault.StateFault.TheVariants as stored
 use Rattle.sim_store.specs.declared.fault.StoreFault.TheVariants as store
 use Rattle.sim_vision.specs.declared.fault.SightFault.TheVariants as sights
-use Rattle.sim_play.specs.{Films.digests_after, Lines.rejoin_text, Lines.resight_text, Lines.sight_file, Lines.sight_text, Realms.TellsRealm}
-use Rattle.sim_report.specs.declared.refusal.Refusal.TheVariants.{Economy as OfEconomy, List as OfList, Log as OfLog}
+use Rattle.{sim_client.specs.StageWords.nowhere, sim_codec.specs.Loading.RefusedFor, sim_diff.specs.declared.place.Place.Place}
+use Rattle.sim_play.specs.{Films.digests_after, Lines.{rejoin_text, resight_text, sight_file, sight_text}, Realms.TellsRealm}
+use Rattle.{sim_replay.specs.{Apart.first_apart, declared.apart.Apart.Apart, Logs.IsRefusedAt}, sim_report.specs.Places.place_text}
+use Rattle.{sim_session.specs.Served.served_text, sim_setup.specs.Refusals.Refusal, sim_store.specs.Reading.reading_of, sim_territory.specs.Realms.realm_of}
 use Rattle.sim_top.specs.Common.{after, agree_line, AllBuiltAtMost, AllStand, apart_lines, AreCleared, AreFed, builds_of, difference_of, digest, Economy}
 use Rattle.sim_top.specs.Common.{economy_of, File, file_in, film_text, Ghosts, IsLog, IsSetup, IsStepList, joined_at, Log, log_after, logged_line, Match}
 use Rattle.sim_top.specs.Common.{match_turns, Meaning, own_turns, parts_text, play_text, refusal_of, refusal_text, released_turns, resume_text, Rig, rigs_by}
 use Rattle.sim_top.specs.Common.{saved_line, Schedule, schedule_of, session_of, session_setup_of, session_text, Setup, setup_of, show_text, Sight, SightFault}
 use Rattle.sim_top.specs.Common.{spelling, StandsFor, State, state_after, StateFault, StepList, steps_of, stock_text, stored_text, StoreFault, text_of_log}
-use Rattle.sim_top.specs.Words.{Asked, asked_by, to_check, to_compare, to_film, to_log, to_parts, to_play, to_realm, to_record, to_rejoin, to_resight}
-use Rattle.sim_top.specs.declared.status.Status.TheVariants.{Differs, Done, EconomyRefused, ListRefused, LogRefused, MatchRefused, NoFile, NoSuchTurn}
-use Rattle.sim_top.specs.declared.status.Status.TheVariants.{ReadFault, SightRefused, StateRefused, TooLong, Usage}
-use Rattle.sim_top.specs.{Common.Turn, Common.Vision, Common.trial_line, Common.usage_text, Words.to_resume, Words.to_serve, Words.to_session, Words.to_show}
-use Rattle.std.specs.Prelude.{[], All, codes, drop, Err, IfOk, if◌then◌else◌, length, List, nat_lt, None, Ok, Option, Result, slice_index_or, Some, ℕ, ◌*◌, ◌+◌}
-use Rattle.{sim_client.specs.StageWords.nowhere, sim_session.specs.Served.served_text, sim_territory.specs.Realms.realm_of, sim_trial.specs.Trial.text_of_trial}
-use Rattle.{sim_codec.specs.Loading.RefusedFor, sim_replay.specs.Apart.first_apart, sim_report.specs.Places.place_text, sim_store.specs.Reading.reading_of}
-use Rattle.{sim_diff.specs.declared.place.Place.Place, sim_replay.specs.declared.apart.Apart.Apart, sim_top.specs.declared.status.Status.Status}
-use Rattle.{sim_replay.specs.Logs.IsRefusedAt, sim_setup.specs.Refusals.Refusal, sim_top.specs.Words.to_sight, sim_vision.specs.Vision.cells_in}
-use Rattle.{sim_top.specs.Words.to_stock, sim_top.specs.Words.to_store, sim_top.specs.Words.to_try, std.specs.Prelude.◌==◌, std.specs.Prelude.◌≡◌}
+use Rattle.sim_top.specs.{Common.{trial_line, Turn, usage_text, Vision}, declared.status.Status.{Status, TheVariants.{Differs, Done, EconomyRefused}}}
+use Rattle.sim_top.specs.declared.status.Status.TheVariants.{ListRefused, LogRefused, MatchRefused, NoFile, NoSuchTurn, ReadFault, SightRefused, StateRefused}
+use Rattle.sim_top.specs.{declared.status.Status.TheVariants.{TooLong, Usage}, Words.{Asked, asked_by, to_check, to_compare, to_film, to_log, to_parts}}
+use Rattle.sim_top.specs.Words.{to_play, to_realm, to_record, to_rejoin, to_resight, to_resume, to_serve, to_session, to_show, to_sight, to_stock, to_store}
+use Rattle.{sim_top.specs.Words.to_try, sim_trial.specs.Trial.text_of_trial, sim_vision.specs.Vision.cells_in, std.specs.Prelude.{All, codes, drop, Err, IfOk}}
+use Rattle.std.specs.Prelude.{if◌then◌else◌, length, List, nat_lt, None, Ok, Option, Result, slice_index_or, Some, ℕ, [], ◌*◌, ◌+◌, ◌==◌, ◌≡◌}
+use Rattle.sim_report.specs.declared.refusal.Refusal.TheVariants.{Economy as OfEconomy, List as OfList, Log as OfLog}
 
 -- what a run comes to: a status, the whole text, and the file that it saves, if any
 pub record Outcome : Type 0 where

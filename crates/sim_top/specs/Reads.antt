@@ -1,14 +1,13 @@
 -- How many bytes are read for what is asked, and which file is found missing before any memory is taken.
-use Rattle.sim_store.specs.Shelf.{after_read_fault, Rose, RoseBy}
-use Rattle.sim_top.specs.Common.{after_giving, after_miss, Appends, Counts, Economy, File, file_in, file_limit, HeldSet, IsLog, Log, raised, Schedule, Setup}
-use Rattle.sim_top.specs.Outcome.{economy_in, map_at, match_in, schedule_in, session_match_in, steps_in, trial_match}
+use Rattle.{sim_store.specs.Shelf.{after_read_fault, Rose, RoseBy}, sim_top.specs.Common.{after_giving, after_miss, Appends, Counts, Economy, File, file_in}}
+use Rattle.sim_top.specs.Common.{file_limit, HeldSet, IsLog, Log, raised, Schedule, Setup, StandsFor, State, StepList, text_of_log}
+use Rattle.sim_top.specs.declared.status.Status.{Status, TheVariants.{Differs, Done, EconomyRefused, ListRefused, LogRefused, MatchRefused, NoFile, NoSuchTurn}}
+use Rattle.sim_top.specs.declared.status.Status.TheVariants.{OutOfMemory, ReadFault, SightRefused, StateRefused, TooLong, Usage, WriteFault}
+use Rattle.sim_top.specs.Outcome.{bytes_in, economy_in, IsOutcome, map_at, match_in, Outcome, schedule_in, session_match_in, steps_in, trial_match}
 use Rattle.sim_top.specs.Words.{Asked, has_match, has_turn, is_comparison, loads_state, reads_economy, reads_file, reads_list, reads_log, reads_map, to_check}
 use Rattle.sim_top.specs.Words.{to_compare, to_film, to_log, to_parts, to_play, to_realm, to_record, to_rejoin, to_resight, to_resume, to_serve, to_session}
-use Rattle.sim_top.specs.declared.status.Status.TheVariants.{Differs, Done, EconomyRefused, ListRefused, LogRefused, MatchRefused, NoFile, NoSuchTurn}
-use Rattle.sim_top.specs.declared.status.Status.TheVariants.{OutOfMemory, ReadFault, SightRefused, StateRefused, TooLong, Usage, WriteFault}
-use Rattle.sim_top.specs.{Common.StandsFor, Common.State, Common.StepList, Common.text_of_log, Outcome.IsOutcome, Outcome.Outcome, Outcome.bytes_in}
-use Rattle.sim_top.specs.{Words.to_show, Words.to_sight, Words.to_stock, Words.to_store, Words.to_try, declared.status.Status.Status}
-use Rattle.std.specs.Prelude.{[], IfOk, IsTrue, length, List, None, Ok, Option, Some, take, ℕ, ◌+◌, ◌<◌, ◌≡◌, ◌≢◌, ◌≤◌, ◌⊎◌}
+use Rattle.sim_top.specs.Words.{to_show, to_sight, to_stock, to_store, to_try}
+use Rattle.std.specs.Prelude.{IfOk, IsTrue, length, List, None, Ok, Option, Some, take, ℕ, [], ◌+◌, ◌<◌, ◌≡◌, ◌≢◌, ◌≤◌, ◌⊎◌}
 
 -- how many bytes are held, if any are
 abbrev pub length_of : Option (List ℕ) → ℕ

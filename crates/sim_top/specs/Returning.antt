@@ -1,9 +1,8 @@
 -- How the eight rigs of a run come back, with every status.
 use Rattle.sim_top.specs.Common.{AllBuiltAtMost, AreBuiltOnceAtMost, builds_of, File, Ghosts, Global, HaveKinds, IsSetup, IsStepList, Meaning, Rig, rigs_by}
-use Rattle.sim_top.specs.declared.status.Status.TheVariants.{Differs, Done, OutOfMemory, WriteFault}
-use Rattle.sim_top.specs.{Common.Setup, Common.StepList, Common.systems_by, Outcome.IsHostedBy, Outcome.IsRecordedBy, Outcome.OfRecord, Outcome.OfSession}
-use Rattle.sim_top.specs.{Outcome.builds_with_log, Outcome.session_match_in, Outcome.steps_in, Reads.HasEnded, Stops.OfFirsts, Stops.RigStands}
-use Rattle.sim_top.specs.{Stops.SecondStands, Stops.used, Words.Asked, Words.is_session, Words.to_record, Words.to_session, declared.status.Status.Status}
+use Rattle.sim_top.specs.{Common.{Setup, StepList, systems_by}, declared.status.Status.{Status, TheVariants.{Differs, Done, OutOfMemory, WriteFault}}}
+use Rattle.sim_top.specs.Outcome.{builds_with_log, IsHostedBy, IsRecordedBy, OfRecord, OfSession, session_match_in, steps_in}
+use Rattle.sim_top.specs.{Reads.HasEnded, Stops.{OfFirsts, RigStands, SecondStands, used}, Words.{Asked, is_session, to_record, to_session}}
 use Rattle.std.specs.Prelude.{All, drop, false, IfSome, length, List, Ok, Option, Some, Vec, vec_capacity, ℕ, ◌≡◌, ◌⊎◌}
 
 -- a run that ended so has played nothing: the words, or what a file says or lacks, ended it before

@@ -7,19 +7,18 @@ use Rattle.sim_stock.specs.declared.fault.EconomyFault.TheVariants as economy
 use Rattle.sim_top.specs.declared.status.Status.TheVariants as status
 use Rattle.sim_vision.specs.declared.fault.SightFault.TheVariants as sights
 use Rattle.sim_report.specs.declared.refusal.Refusal.TheVariants.{Economy as OfEconomy, List as OfList, Log as OfLog}
-use Rattle.sim_top.specs.Common.{Ghosts, Global, HaveKinds, joined_at, Log, Match, Meaning, own_turns, paid_state, refusal_text, Rig, Setup, Sight, SightFault}
-use Rattle.sim_top.specs.Common.{StandsFor, State, StateFault, Turn, Vision, state_after, stored_text, systems_by}
+use Rattle.{sim_lists.specs.declared.fault.ListFault.ListFault, sim_replay.specs.declared.fault.LogFault.LogFault}
+use Rattle.{sim_setup.specs.declared.fault.SetupFault.SetupFault, sim_stock.specs.declared.fault.EconomyFault.EconomyFault}
+use Rattle.{sim_store.specs.Reading.{GaveAtMost, GaveThenFailed, GaveTooMany}, sim_system.specs.Meanings.Systems}
 use Rattle.sim_top.specs.Common.{after, after_giving, after_miss, AreBuiltOnceAtMost, AreCleared, AreFed, Counts, end_from, File, file_limit, first_state}
-use Rattle.sim_top.specs.Outcome.{bytes_in, code_of, economy_in, IsLogged, IsStored, log_by, match_in, Outcome, printed, sight_code, state_by, Then}
-use Rattle.sim_top.specs.Words.{Asked, to_check, to_compare, to_film, to_log, to_parts, to_play, to_realm, to_record, to_rejoin, to_resight, to_resume}
-use Rattle.sim_top.specs.declared.stop.Stop.TheVariants.{EconomyRefused, ListRefused, LogRefused, MatchRefused, NoFile, NoSuchTurn, OutOfMemory, ReadFault}
-use Rattle.sim_top.specs.declared.{commands.Answer.Answer, status.Status.Status, stop.Stop.Stop, stop.Stop.TheVariants.SightRefused}
-use Rattle.sim_top.specs.{Outcome.trial_match, Reads.CountsBefore, Reads.IsUnfound, Reads.OnlyGave, Words.to_serve, Words.to_session, Words.to_show}
-use Rattle.sim_top.specs.{Words.to_sight, Words.to_stock, Words.to_store, Words.to_try, declared.stop.Stop.TheVariants.StateRefused}
-use Rattle.std.specs.Prelude.{All, Err, IfOk, List, None, Ok, OnOk, Result, Some, Vec, [], length, ℕ, ◌∷◌, ◌≡◌}
-use Rattle.{sim_lists.specs.declared.fault.ListFault.ListFault, sim_store.specs.Reading.GaveThenFailed, sim_top.specs.declared.stop.Stop.TheVariants.TooLong}
-use Rattle.{sim_replay.specs.declared.fault.LogFault.LogFault, sim_store.specs.Reading.GaveAtMost, sim_system.specs.Meanings.Systems, std.specs.Prelude.Option}
-use Rattle.{sim_setup.specs.declared.fault.SetupFault.SetupFault, sim_stock.specs.declared.fault.EconomyFault.EconomyFault, sim_store.specs.Reading.GaveTooMany}
+use Rattle.sim_top.specs.Common.{Ghosts, Global, HaveKinds, joined_at, Log, Match, Meaning, own_turns, paid_state, refusal_text, Rig, Setup, Sight, SightFault}
+use Rattle.sim_top.specs.{Common.{StandsFor, State, state_after, StateFault, stored_text, systems_by, Turn, Vision}, declared.commands.Answer.Answer}
+use Rattle.sim_top.specs.declared.{status.Status.Status, stop.Stop.{Stop, TheVariants.{EconomyRefused, ListRefused, LogRefused, MatchRefused, NoFile}}}
+use Rattle.sim_top.specs.{declared.stop.Stop.TheVariants.{NoSuchTurn, OutOfMemory, ReadFault, SightRefused, StateRefused, TooLong}, Outcome.bytes_in}
+use Rattle.sim_top.specs.Outcome.{code_of, economy_in, IsLogged, IsStored, log_by, match_in, Outcome, printed, sight_code, state_by, Then, trial_match}
+use Rattle.sim_top.specs.{Reads.{CountsBefore, IsUnfound, OnlyGave}, Words.{Asked, to_check, to_compare, to_film, to_log, to_parts, to_play, to_realm}}
+use Rattle.sim_top.specs.Words.{to_record, to_rejoin, to_resight, to_resume, to_serve, to_session, to_show, to_sight, to_stock, to_store, to_try}
+use Rattle.std.specs.Prelude.{All, Err, IfOk, length, List, None, Ok, OnOk, Option, Result, Some, Vec, ℕ, [], ◌∷◌, ◌≡◌}
 
 -- the status with which a command ends there
 abbrev pub status_of : Stop → Status

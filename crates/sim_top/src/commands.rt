@@ -1,9 +1,8 @@
 //! What each command makes of its files: the whole text that it prints, and the bytes of the file that it saves. Nothing
 //! is written here. Each command that plays takes the rigs that it uses out of the equipment, and puts them back.
 
-ghost use Rattle.std.specs.Prelude.{Some, string_bytes};
-ghost use Rattle.sim_top.specs.{Commands.IsAnswerTo, Commands.shelved, Making.IsMadeOf, Making.status_made, Outcome.printed as printed_as};
-ghost use Rattle.sim_top.specs.{Returning.RigsCameBack, Stops.AreFresh, Trials.CanBeTried, Words.asked};
+ghost use Rattle.sim_top.specs.{Commands.{IsAnswerTo, shelved}, Making.{IsMadeOf, status_made}, Outcome.printed as printed_as, Returning.RigsCameBack};
+ghost use Rattle.{sim_top.specs.{Stops.AreFresh, Trials.CanBeTried, Words.asked}, std.specs.Prelude.{Some, string_bytes}};
 
 mod comparing;
 mod films;
@@ -27,12 +26,11 @@ use comparing::compare;
 use parts::parts;
 use serving::serve;
 use showing::show;
-use sim_base::OutOfMemory;
+use sim_base::{Global, OutOfMemory};
 use sim_orders::OrderTable;
 use sim_stock::DeedTable;
 use sim_store::Shelf;
 use sim_system::{Rig, System};
-use std::alloc::Global;
 
 /// A file that is to be written.
 #[derive(Drop)]

@@ -11,7 +11,7 @@ ghost use Rattle.sim_top.specs.{Common.steps_of as steps_of_bytes, Outcome.trial
 ghost use Rattle.{sim_codec.specs.Loading.head_fault, sim_lists.specs.StepLists.IsSchedule, sim_top.specs.Commands.HasParsedText};
 
 use crate::stop::Stop;
-use sim_base::{Setup, State};
+use sim_base::{Global, Setup, State};
 use sim_codec::load;
 use sim_lists::{Schedule, StepList, schedule_of, steps_of};
 use sim_replay::{Log, log_of};
@@ -20,7 +20,6 @@ use sim_stock::{Economy, economy_of};
 use sim_store::{Shelf, StoreFault, read_file};
 use sim_trial::trial_text;
 use sim_vision::Sight;
-use std::alloc::Global;
 
 /// Reads the bytes of a file.
 #[tactic(auto, unfolding(crate::specs::Outcome::bytes_in))]

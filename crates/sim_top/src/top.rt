@@ -1,25 +1,23 @@
 //! The top call: from the words to a status. All files are read and the whole text is made before anything is written,
 //! so that a refusal or want of memory leaves the sink and the files as they were.
 
-ghost use Rattle.std.specs.Prelude.{[], IfOk, IfSome, IsOk, List, None, Option, option_map, Some, string_bytes, ℕ, ◌≡◌, ◌≢◌};
-ghost use Rattle.sim_store.specs.Reading.{FileCauses};
-ghost use Rattle.sim_top.specs.Headline.{Balances, Film, Headline, OfFilm, OfParts, OfRealm, OfStock, PartsTold, TellsLogs, TellsSights, Territories};
-ghost use Rattle.sim_top.specs.Making.{file_of, IsAnswered, IsSavedAs, IsSettled, MeetsBefore, SaveMeets, SavesIfDone, Tells};
-ghost use Rattle.sim_top.specs.Reads.{Causes, CountsBefore, GaveForWords, HasEnded, IsFaultless, IsFinal, IsReady, IsSilent, IsUnfound, IsUsageTold};
-ghost use Rattle.sim_top.specs.{Commands.IsPrepared, Commands.shelved, Common.Appends, Outcome.OfSession, Reads.KeepsAllBut, Reads.LacksMatch, Stops.status_of};
-ghost use Rattle.sim_top.specs.{Common.Counts as AllCounts, Common.usage_text as text_of_usage, Returning.RigsCameBack, Stops.stop_text as text_of_stop};
-ghost use Rattle.sim_top.specs.{Common.File, Reads.MayEnd, Reads.Meets, Reads.scene, Stops.AreFresh, Words.Asked, Words.asked_by, Words.out_of, Words.words_of};
+ghost use Rattle.{sim_store.specs.Reading.FileCauses, sim_top.specs.Commands.{IsPrepared, shelved}};
+ghost use Rattle.sim_top.specs.{Common.{Appends, Counts as AllCounts, File, usage_text as text_of_usage}, Headline.{Balances, Film, Headline, OfFilm, OfParts}};
+ghost use Rattle.sim_top.specs.{Headline.{OfRealm, OfStock, PartsTold, TellsLogs, TellsSights, Territories}, Making.{file_of, IsAnswered, IsSavedAs}};
+ghost use Rattle.sim_top.specs.{Making.{IsSettled, MeetsBefore, SaveMeets, SavesIfDone, Tells}, Outcome.OfSession, Reads.{Causes, CountsBefore, GaveForWords}};
+ghost use Rattle.sim_top.specs.Reads.{HasEnded, IsFaultless, IsFinal, IsReady, IsSilent, IsUnfound, IsUsageTold, KeepsAllBut, LacksMatch, MayEnd, Meets, scene};
+ghost use Rattle.sim_top.specs.{Returning.RigsCameBack, Stops.{AreFresh, status_of, stop_text as text_of_stop}, Words.{Asked, asked_by, out_of, words_of}};
+ghost use Rattle.std.specs.Prelude.{IfOk, IfSome, IsOk, List, None, Option, option_map, Some, string_bytes, ℕ, [], ◌≡◌, ◌≢◌};
 
 use crate::commands::{Answer, Equipment, Saved};
 use crate::words::request_of;
 use crate::{Status, Stop};
-use sim_base::OutOfMemory;
+use sim_base::{Global, OutOfMemory};
 use sim_orders::OrderTable;
 use sim_report::{Refusal, push_refusal, push_usage};
 use sim_stock::DeedTable;
 use sim_store::{Shelf, Sink, StoreFault, write_file, write_out};
 use sim_system::{Rig, System};
-use std::alloc::Global;
 
 /// How a run ended, and the rigs that it was handed.
 #[derive(Drop)]

@@ -1,6 +1,5 @@
 -- Worked examples of marks that change.
-use Rattle.std.proofs.Common.{◌≡◌, ℕ, [], ◌∷◌, refl}
-use Rattle.sim_trail.specs.{Shifts.shifts_between, declared.mark.Mark.Mark, declared.shift.Shift.TheVariants.Born, declared.shift.Shift.TheVariants.Gone}
+use Rattle.{sim_trail.specs.{declared.{mark.Mark.Mark, shift.Shift.TheVariants.{Born, Gone}}, Shifts.shifts_between}, std.proofs.Common.{refl, ℕ, [], ◌∷◌, ◌≡◌}}
 
 -- an entity of template 1 in a cell
 abbrev one : ℕ → ℕ → ℕ → ℕ → Mark

@@ -1,12 +1,11 @@
 -- The pass over two lists of marks gives the changes of each id, ascending.
-use Rattle.sim_base.specs.{Rows.id_of, declared.state.Row.Row, declared.state.State.State}
-use Rattle.sim_trail.specs.Shifts.{born, change_of, end_of, gone, id_of_mark, IsAscending, mark_at, mark_of, marks_of, same_mark, shifts_between, SumFollows}
-use Rattle.sim_trail.specs.{Merge.behind, Merge.first_of, Merge.next_id, Shifts.weight_born, Shifts.weight_gone, declared.mark.Mark.Mark}
-use Rattle.std.proofs.Common.{Some, subst, suc, sym, true, zero, ℕ, ⊎_elim, ◌++◌, ◌+◌, ◌<◌, ◌∙◌, ◌∷◌, ◌≡◌, ◌≤◌}
-use Rattle.std.proofs.Common.{[], add-one, add-zero, ap, append_assoc, arith, Bool, cond, eqb, false, get_or, length, List, map, max, min, None, Option, refl}
-use Rattle.std.proofs.lemmas.{Bool.and_parts, Bool.eq-eqb, Bool.eqb-true, Bool.ne_eqb, Bool.true≢false, List.Sums.sum_by-append, List.Sums.sum_by-cons}
-use Rattle.std.specs.List.{Sorted.IsStrictlyIncreasing, flat_map, fold, range_with_len, sum_by}
-use Rattle.{sim_trail.specs.declared.shift.Shift.Shift, std.proofs.Math.Nat.eq-or-lt_of_le}
+use Rattle.sim_base.specs.{declared.state.{Row.Row, State.State}, Rows.id_of}
+use Rattle.sim_trail.specs.{declared.{mark.Mark.Mark, shift.Shift.Shift}, Merge.{behind, first_of, next_id}, Shifts.{born, change_of, end_of, gone, id_of_mark}}
+use Rattle.sim_trail.specs.Shifts.{IsAscending, mark_at, mark_of, marks_of, same_mark, shifts_between, SumFollows, weight_born, weight_gone}
+use Rattle.std.proofs.Common.{add-one, add-zero, ap, append_assoc, arith, Bool, cond, eqb, false, get_or, length, List, map, max, min, None, Option, refl, Some}
+use Rattle.std.proofs.Common.{subst, suc, sym, true, zero, ℕ, ⊎_elim, [], ◌++◌, ◌+◌, ◌<◌, ◌∙◌, ◌∷◌, ◌≡◌, ◌≤◌}
+use Rattle.std.proofs.{lemmas.{Bool.{and_parts, eq-eqb, eqb-true, ne_eqb, true≢false}, List.Sums.{sum_by-append, sum_by-cons}}, Math.Nat.eq-or-lt_of_le}
+use Rattle.std.specs.List.{flat_map, fold, range_with_len, Sorted.IsStrictlyIncreasing, sum_by}
 
 -- Marks whose ids rise from a number on, by recursion on the marks, and the mark of an id among them.
 

@@ -1,8 +1,7 @@
 -- The rows of a valid state lie on the largest ground.
-use Rattle.sim_base.specs.declared.{state.Row.Row, state.State.State, template.Template.Template}
-use Rattle.sim_base.specs.{Limits.IsKnownRow, Limits.IsSetup, Limits.IsValid, Limits.IsValidRow, Rows.template_of, declared.setup.Setup.Setup}
-use Rattle.std.proofs.{Common.MatchOption, Common.None, Common.Option, Common.Some, lemmas.List.Elements.All-weaker}
-use Rattle.{sim_base.proofs.GroundPoints.inside_placed, sim_trail.specs.Shifts.IsPlacedRow, std.proofs.Common.All, std.proofs.Common.List}
+use Rattle.sim_base.{proofs.GroundPoints.inside_placed, specs.declared.{setup.Setup.Setup, state.{Row.Row, State.State}, template.Template.Template}}
+use Rattle.{sim_base.specs.{Limits.{IsKnownRow, IsSetup, IsValid, IsValidRow}, Rows.template_of}, sim_trail.specs.Shifts.IsPlacedRow}
+use Rattle.std.proofs.{Common.{All, List, MatchOption, None, Option, Some}, lemmas.List.Elements.All-weaker}
 
 -- a row's template is known
 pub known_row : {P : Template → Type 0} (o : Option Template) → MatchOption o ⊥ P → (t : Template) × P t

@@ -6,8 +6,7 @@ ghost use Rattle.sim_trail.specs.Shifts.{IsAscending, shifts_between as shifts_f
 
 use crate::mark::Mark;
 use crate::shift::{Shifts, push_change};
-use sim_base::{Items, OutOfMemory};
-use std::alloc::Global;
+use sim_base::{Global, Items, OutOfMemory};
 
 // The id that comes next in either list.
 fn next_id(olds: &[Mark], news: &[Mark]) -> Option<u32>

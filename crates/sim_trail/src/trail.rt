@@ -1,15 +1,13 @@
 //! The marks of the last state that was followed.
 
-ghost use Rattle.std.specs.List.Sorted.{IsStrictlyIncreasing};
-ghost use Rattle.std.specs.Prelude.{[], All, IfOk, IsOk, IsTrue, map, OnErr, OnOk, ◌≡◌};
 ghost use Rattle.sim_base.specs.Rows.{id_of};
 ghost use Rattle.sim_trail.specs.Shifts.{IsAscending, IsPlacedRow, mark_of as mark_of_row, marks_of as marks_of_state, shifts_between as shifts_from_to};
+ghost use Rattle.std.specs.{List.Sorted.IsStrictlyIncreasing, Prelude.{All, IfOk, IsOk, IsTrue, map, OnErr, OnOk, [], ◌≡◌}};
 
 use crate::mark::{Mark, mark_of};
 use crate::merge::shifts_between;
 use crate::shift::Shifts;
-use sim_base::{Items, OutOfMemory, Row, State};
-use std::alloc::Global;
+use sim_base::{Global, Items, OutOfMemory, Row, State};
 use std::marker::Model;
 
 /// The marks of a state. Contracts see them as a list.
@@ -20,8 +18,7 @@ pub struct Trail {
 }
 
 impl Model for Trail {
-    ghost use Rattle.std.specs.Prelude.{List};
-    ghost use Rattle.sim_trail.specs.{Shifts.IsAscending, declared.mark.Mark.Mark};
+    ghost use Rattle.{sim_trail.specs.{declared.mark.Mark.Mark, Shifts.IsAscending}, std.specs.Prelude.List};
 
     ghost Value = { List Mark };
 

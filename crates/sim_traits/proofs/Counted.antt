@@ -1,11 +1,10 @@
 -- Numbers of words: what a list of them has, and what one part of a text adds.
-use Rattle.std.proofs.Common.{Some, suc, sym, take, true, ℕ, ◌&&◌, ◌++◌, ◌+◌, ◌<◌, ◌∙◌, ◌∷◌, ◌≡◌, ◌≤◌, ◌⊎◌}
-use Rattle.std.proofs.Common.{[], ap, append-nil, arith, Bool, drop, false, filter, get_or, inl, inr, length, length-append, List, lit≤, None, Option, refl}
-use Rattle.std.proofs.lemmas.List.{Elements.All-cons, Elements.All-nil, Elements.filter-append, Elements.filter_map-append, Folds.list_all-append}
-use Rattle.std.proofs.lemmas.{Bool.Decides.nat_tests, Bool.and_parts, Bool.and_right, List.Quantifiers.position-Some, List.take-append-drop}
-use Rattle.std.specs.{List.cons_option, List.filter_map, List.list_all, Prelude.All, Prelude.nat_le, Prelude.nat_lt, Str.bytes_eq}
-use Rattle.{sim_base.proofs.Lists.length-cons_option, sim_traits.specs.Values.is_admitted, sim_traits.specs.Values.is_named, sim_traits.specs.Values.number_in}
-use Rattle.{sim_traits.specs.Values.numbers_in, sim_tree.specs.Tokens.is_word, std.proofs.Math.Seq.drop-cons}
+use Rattle.{sim_base.proofs.Lists.length-cons_option, sim_traits.specs.Values.{is_admitted, is_named, number_in, numbers_in}, sim_tree.specs.Tokens.is_word}
+use Rattle.std.proofs.Common.{ap, append-nil, arith, Bool, drop, false, filter, get_or, inl, inr, length, length-append, List, lit≤, None, Option, refl, Some}
+use Rattle.std.proofs.Common.{suc, sym, take, true, ℕ, [], ◌&&◌, ◌++◌, ◌+◌, ◌<◌, ◌∙◌, ◌∷◌, ◌≡◌, ◌≤◌, ◌⊎◌}
+use Rattle.std.proofs.lemmas.{Bool.{and_parts, and_right, Decides.nat_tests}, List.Elements.{All-cons, All-nil, filter-append, filter_map-append}}
+use Rattle.std.proofs.{lemmas.List.{Folds.list_all-append, Quantifiers.position-Some, take-append-drop}, Math.Seq.drop-cons}
+use Rattle.std.specs.{List.{cons_option, filter_map, list_all}, Prelude.{All, nat_le, nat_lt}, Str.bytes_eq}
 
 -- so many words, each a name, and their numbers
 pub record Counted (names words : List (List ℕ)) (numbers : List ℕ) : Type 0 where

@@ -1,9 +1,8 @@
 -- Worked examples, computed from the definitions: each template was worked out by hand from the table of the parts.
-use Rattle.sim_traits.specs.declared.fault.TraitFault.{TheVariants.Clash, TheVariants.Missing, TheVariants.OutOfRange, TheVariants.UnknownPart, TraitFault}
-use Rattle.sim_tree.specs.Trees.{Children, Node, child, no_children, node}
-use Rattle.std.proofs.Common.{[], Err, List, None, Ok, pos, refl, Some, ℕ, ◌∷◌, ◌≡◌}
-use Rattle.std.specs.Prelude.{Result, codes}
-use Rattle.{sim_base.specs.declared.template.Template.Template, sim_traits.specs.Values.template_in, sim_traits.specs.Values.unarmoured}
+use Rattle.sim_base.specs.declared.template.Template.{Template}
+use Rattle.sim_traits.specs.{declared.fault.TraitFault.{TheVariants.{Clash, Missing, OutOfRange, UnknownPart}, TraitFault}, Values.{template_in, unarmoured}}
+use Rattle.sim_tree.specs.Trees.{child, Children, no_children, Node, node}
+use Rattle.std.{proofs.Common.{Err, List, None, Ok, pos, refl, Some, ℕ, [], ◌∷◌, ◌≡◌}, specs.Prelude.{codes, Result}}
 
 -- a node with a text and no children
 abbrev leaf : List ℕ → Node

@@ -1,12 +1,10 @@
 -- What each part says, once its texts are there: None where one of them is not of its kind or within its limits.
-use Rattle.sim_base.specs.{NumberText.number_of, Places.unit, declared.template.Arms.Arms, declared.template.Base.Base, declared.template.Harm.Harm}
-use Rattle.sim_traits.specs.declared.fault.TraitFault.{TheVariants.Clash, TheVariants.Missing, TheVariants.OutOfRange, TheVariants.UnknownPart, TraitFault}
-use Rattle.sim_tree.specs.Trees.{child, child_named, Children, no_children, Node, under, value_of}
-use Rattle.std.specs.Prelude.{[], Bool, codes, Err, false, find, if◌then◌else◌, is_none, is_some, length, List, nat_le, nat_lt, negsuc, None, not, Ok, Option}
-use Rattle.std.specs.Prelude.{option_and_then, pos, position, Result, Some, true, unwrap_or, ℕ, ℤ, ◌%◌, ◌&&◌, ◌++◌, ◌/◌, ◌==◌, ◌||◌, ◌∷◌}
-use Rattle.std.specs.Str.{bytes_eq}
-use Rattle.{sim_base.specs.declared.template.Resist.Resist, sim_base.specs.declared.template.Template.Template, sim_json.specs.Keys.among}
-use Rattle.{sim_tree.specs.Tokens.is_word, sim_tree.specs.Tokens.tokens_of, std.specs.List.filter_map, std.specs.List.list_all, std.specs.List.list_any}
+use Rattle.sim_base.specs.{declared.template.{Arms.Arms, Base.Base, Harm.Harm, Resist.Resist, Template.Template}, NumberText.number_of, Places.unit}
+use Rattle.{sim_json.specs.Keys.among, sim_traits.specs.declared.fault.TraitFault.{TheVariants.{Clash, Missing, OutOfRange, UnknownPart}, TraitFault}}
+use Rattle.sim_tree.specs.{Tokens.{is_word, tokens_of}, Trees.{child, child_named, Children, no_children, Node, under, value_of}}
+use Rattle.std.specs.List.{filter_map, list_all, list_any}
+use Rattle.std.specs.Prelude.{Bool, codes, Err, false, find, if◌then◌else◌, is_none, is_some, length, List, nat_le, nat_lt, negsuc, None, not, Ok, Option}
+use Rattle.std.specs.{Prelude.{option_and_then, pos, position, Result, Some, true, unwrap_or, ℕ, ℤ, [], ◌%◌, ◌&&◌, ◌++◌, ◌/◌, ◌==◌, ◌||◌, ◌∷◌}, Str.bytes_eq}
 
 -- The list of templates that a template trains.
 

@@ -1,11 +1,10 @@
 //! Whether a tree has nothing beside the parts of a template and their children. The walk ends at the first node that
 //! has no place.
 
-ghost use Rattle.std.specs.Prelude.{is_none, ◌&&◌, ◌≡◌};
-ghost use Rattle.sim_json.specs.Keys.{among, texts_of};
-ghost use Rattle.sim_traits.specs.Values.{are_known as are_known_data, are_leaves as are_leaves_data, are_none as are_none_data};
-ghost use Rattle.sim_traits.specs.Values.{has_known_parts as has_known_parts_data, is_known as is_known_data, part_named};
+ghost use Rattle.{sim_json.specs.Keys.{among, texts_of}, sim_traits.specs.Values.{are_known as are_known_data, are_leaves as are_leaves_data}};
+ghost use Rattle.sim_traits.specs.Values.{are_none as are_none_data, has_known_parts as has_known_parts_data, is_known as is_known_data, part_named};
 ghost use Rattle.sim_tree.specs.Trees.{node_of, nodes_of, under, value_of};
+ghost use Rattle.std.specs.Prelude.{is_none, ◌&&◌, ◌≡◌};
 
 use sim_json::is_among;
 use sim_tree::{Child, Tree};

@@ -1,17 +1,15 @@
 //! A whole template, part after part in the order of the table.
 
+ghost use Rattle.{sim_base.specs.Limits.IsTemplate, sim_traits.specs.{Meets.Meets, Values.{early_in, template_in}}, sim_tree.specs.Trees.node_of};
 ghost use Rattle.std.specs.Prelude.{IfErr, IfOk, length, ◌≡◌};
-ghost use Rattle.sim_tree.specs.Trees.{node_of};
-ghost use Rattle.{sim_base.specs.Limits.IsTemplate, sim_traits.specs.Meets.Meets, sim_traits.specs.Values.early_in, sim_traits.specs.Values.template_in};
 
 use crate::fault::TraitFault;
 use crate::parts::{arms_of, base_of, health_of, resist_of, speed_of};
 use crate::table::has_known_parts;
 use crate::units::train_of;
-use sim_base::{Name, Resist, Template};
+use sim_base::{Global, Name, Resist, Template};
 use sim_merge::Library;
 use sim_tree::{Tree, copy_name};
-use std::alloc::Global;
 
 // What a template without levels of resistance has.
 const UNARMOURED: Resist = Resist {

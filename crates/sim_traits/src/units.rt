@@ -1,17 +1,15 @@
 //! The templates that a template trains, which is the one part that takes memory. The walk over the list ends at the
 //! first word that is no name, and at the 65th that is one.
 
-ghost use Rattle.std.specs.List.{filter_map};
-ghost use Rattle.std.specs.Prelude.{[], All, false, filter, IfOk, IfSome, length, true, ◌++◌, ◌<◌, ◌∷◌, ◌≡◌, ◌≤◌};
-ghost use Rattle.sim_traits.specs.Values.{is_admitted, number_in, part_of, train_in as train_in_node, train_part, units_in as units_in_text};
-ghost use Rattle.{sim_traits.specs.Meets.Meets, sim_tree.specs.Tokens.is_word, sim_tree.specs.Trees.node_of};
+ghost use Rattle.sim_traits.specs.{Meets.Meets, Values.{is_admitted, number_in, part_of, train_in as train_in_node, train_part, units_in as units_in_text}};
+ghost use Rattle.sim_tree.specs.{Tokens.is_word, Trees.node_of};
+ghost use Rattle.std.specs.{List.filter_map, Prelude.{All, false, filter, IfOk, IfSome, length, true, [], ◌++◌, ◌<◌, ◌∷◌, ◌≡◌, ◌≤◌}};
 
 use crate::fault::TraitFault;
 use crate::fields::{lacks, text_at};
-use sim_base::{Ids, OutOfMemory};
+use sim_base::{Global, Ids, OutOfMemory};
 use sim_merge::Library;
 use sim_tree::Tree;
-use std::alloc::Global;
 
 // A template trains so many others at most.
 const MOST: usize = 64;

@@ -1,7 +1,6 @@
 -- A path, one name after another.
-use Rattle.sim_tree.proofs.Common.{at_child, child, child_named, Children, no_children, Node, node, sym, under, value_at, value_of, ◌∙◌}
-use Rattle.sim_tree.proofs.Common.{◌≡◌, ℕ, Bool, true, false, List, [], ◌∷◌, if◌then◌else◌, Some, None, bytes_eq, Option, option_and_then, refl, ap, at}
-use Rattle.sim_tree.specs.Trees.{Entry}
+use Rattle.sim_tree.proofs.Common.{ap, at, at_child, Bool, bytes_eq, child, child_named, Children, false, if◌then◌else◌, List, no_children, Node, node, None}
+use Rattle.sim_tree.{proofs.Common.{Option, option_and_then, refl, Some, sym, true, under, value_at, value_of, ℕ, [], ◌∙◌, ◌∷◌, ◌≡◌}, specs.Trees.Entry}
 
 pub at_end : (n : Node) → value_at n [] ≡ value_of n
 at_end (node value mark cs) = refl

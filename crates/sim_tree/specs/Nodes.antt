@@ -1,15 +1,13 @@
 -- The tree that a value of JSON is. A text or a whole number is a node with that value; an object is a node, whose keys
 -- are `_` for its value, those that begin with `@` for its mark, and else the names of its children.
 use Rattle.serde_json.specs.Data.{array, boolean, Data, float, member, Members, negative, no_members, null, Num, number, object, string, unsigned}
-use Rattle.serde_json.specs.Find.{as_object, as_str, get, get_member}
-use Rattle.sim_tree.specs.Trees.{bears, Children, children_of, no_children, Node, node, node_of, nodes_of}
-use Rattle.sim_tree.specs.declared.fault.TreeFault.{TheVariants.NotWhole, TheVariants.OutOfMemory, TheVariants.TooDeep, TheVariants.WrongKind, TreeFault}
-use Rattle.sim_tree.specs.declared.tree.TreeMark.TheVariants.{Add, Disable, Merge, Mul, Replace, Tokens}
-use Rattle.sim_tree.specs.declared.{source.Source.Source, tree.Child.Child, tree.Tree.Tree, tree.TreeMark.TreeMark}
-use Rattle.std.specs.Prelude.{[], Bool, codes, Err, false, if◌then◌else◌, is_some, List, nat_eq, nat_le, nat_lt, None, not, Ok, Option, option_and_then}
-use Rattle.std.specs.{Fmt.decimal, Fmt.signed_decimal, List.starts_with, Prelude.Result, Prelude.Some, Prelude.Vec, Prelude.option_map, Prelude.true, Prelude.ℕ}
-use Rattle.std.specs.{Prelude.◌+◌, Prelude.◌==◌, Prelude.◌||◌, Prelude.◌∷◌, Prelude.◌≡◌, Str.bytes_eq, declared.alloc.Global.Global}
-use Rattle.{sim_base.specs.Names.is_name, sim_json.specs.Commands.next_or, sim_tree.specs.Walks.has_float, sim_tree.specs.Walks.height, std.specs.Prelude.◌&&◌}
+use Rattle.{serde_json.specs.Find.{as_object, as_str, get, get_member}, sim_base.specs.Names.is_name, sim_json.specs.Commands.next_or}
+use Rattle.sim_tree.specs.declared.{fault.TreeFault.{TheVariants.{NotWhole, OutOfMemory, TooDeep, WrongKind}, TreeFault}, source.Source.Source}
+use Rattle.sim_tree.specs.declared.tree.{Child.Child, Tree.Tree, TreeMark.{TheVariants.{Add, Disable, Merge, Mul, Replace, Tokens}, TreeMark}}
+use Rattle.sim_tree.specs.{Trees.{bears, Children, children_of, no_children, Node, node, node_of, nodes_of}, Walks.{has_float, height}}
+use Rattle.std.specs.{declared.alloc.Global.Global, Fmt.{decimal, signed_decimal}, List.starts_with}
+use Rattle.std.specs.Prelude.{Bool, codes, Err, false, if◌then◌else◌, is_some, List, nat_eq, nat_le, nat_lt, None, not, Ok, Option, option_and_then, option_map}
+use Rattle.std.specs.{Prelude.{Result, Some, true, Vec, ℕ, [], ◌&&◌, ◌+◌, ◌==◌, ◌||◌, ◌∷◌, ◌≡◌}, Str.bytes_eq}
 
 -- What stands at a node itself, read from JSON: its value and its mark.
 

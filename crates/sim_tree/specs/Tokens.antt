@@ -1,6 +1,5 @@
 -- The words of a text, which stand between spaces.
-use Rattle.std.specs.List.{slice_split}
-use Rattle.std.specs.Prelude.{ℕ, Bool, true, false, List, [], ◌∷◌, ◌==◌, Some, None, filter, Option}
+use Rattle.std.specs.{List.slice_split, Prelude.{Bool, false, filter, List, None, Option, Some, true, ℕ, [], ◌==◌, ◌∷◌}}
 
 -- the byte that stands between words
 abbrev pub is_space : ℕ → Bool

@@ -1,9 +1,8 @@
 -- Trees by themselves: a node has perhaps a value, at most one mark, and children by name.
-use Rattle.std.specs.{Cmp.Lexicographic.slice_cmp, Ordering.is_lt, Ordering.nat_cmp, Str.bytes_eq}
-use Rattle.std.specs.Prelude.{ℕ, suc, max, Bool, true, false, ◌&&◌, List, [], ◌∷◌, map, is_some, is_none, if◌then◌else◌, Some, None, Option}
-use Rattle.sim_tree.specs.declared.tree.{Tree.Tree, TreeMark.TreeMark}
-use Rattle.sim_tree.specs.declared.tree.Child.{Child, TheFolds.fold-Child, TheFolds.fold-Tree, TheOpen.Child-F, TheOpen.Tree-F}
-use Rattle.sim_tree.specs.declared.tree.TreeMark.TheVariants.{Add, Disable, Merge, Mul, Replace, Tokens}
+use Rattle.sim_tree.specs.declared.tree.{Child.{Child, TheFolds.{fold-Child, fold-Tree}, TheOpen.{Child-F, Tree-F}}, Tree.Tree}
+use Rattle.sim_tree.specs.declared.tree.TreeMark.{TheVariants.{Add, Disable, Merge, Mul, Replace, Tokens}, TreeMark}
+use Rattle.std.specs.{Cmp.Lexicographic.slice_cmp, Ordering.{is_lt, nat_cmp}}
+use Rattle.std.specs.{Prelude.{Bool, false, if◌then◌else◌, is_none, is_some, List, map, max, None, Option, Some, suc, true, ℕ, [], ◌&&◌, ◌∷◌}, Str.bytes_eq}
 
 mutual
   pub data Node : Type 0 where

@@ -1,15 +1,13 @@
 //! What stands at a node itself, read from JSON: its value, its mark, and which keys of an object speak of them.
 
+ghost use Rattle.{serde_json.specs.{Find.get, View.view}, sim_tree.specs.Nodes.{is_child_key as is_child_key_bytes, is_mark_key as is_mark_key_bytes}};
+ghost use Rattle.sim_tree.specs.Nodes.{is_own_key as is_own_key_bytes, is_plain_member as is_plain_member_data, leaf_text as leaf_text_data};
+ghost use Rattle.sim_tree.specs.Nodes.{mark_from as mark_from_data, own_in, text_mark as text_mark_of, whole_mark as whole_mark_of};
 ghost use Rattle.std.specs.Prelude.{codes, IfOk, is_some, None, ◌≡◌};
-ghost use Rattle.serde_json.specs.{Find.get, View.view};
-ghost use Rattle.sim_tree.specs.Nodes.{is_child_key as is_child_key_bytes, is_mark_key as is_mark_key_bytes, is_own_key as is_own_key_bytes};
-ghost use Rattle.sim_tree.specs.Nodes.{is_plain_member as is_plain_member_data, leaf_text as leaf_text_data, mark_from as mark_from_data, own_in};
-ghost use Rattle.sim_tree.specs.Nodes.{text_mark as text_mark_of, whole_mark as whole_mark_of};
 
 use crate::{Text, TreeMark};
 use serde_json::Value;
-use sim_base::OutOfMemory;
-use std::alloc::Global;
+use sim_base::{Global, OutOfMemory};
 
 /// A text, which the value lends, or a whole number in decimal.
 pub fn leaf_text<'a>(alloc: Global, value: &'a Value) -> Result<Option<Text<'a>>, OutOfMemory>

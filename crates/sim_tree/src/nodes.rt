@@ -1,12 +1,11 @@
 //! A node of a tree, read from JSON, and those below it. That the value has few levels and whole numbers alone was seen
 //! before.
 
-ghost use Rattle.std.specs.Prelude.{false, IfOk, is_some, nat_le, None, Some, true, ◌&&◌, ◌≡◌, ◌≢◌};
 ghost use Rattle.serde_json.specs.View.{members_view, view};
-ghost use Rattle.sim_tree.specs.Nodes.{are_members, begin_well, children_in, ChildrenMeet, has_kind, is_node, leaf_text as leaf_text_data};
-ghost use Rattle.sim_tree.specs.Nodes.{mark_in as mark_in_data, marks_in, node_in, of_kind, TreeMeets};
+ghost use Rattle.sim_tree.specs.{declared.tree.TreeMark.TheVariants.{Add, Mul, Tokens}, Nodes.{are_members, begin_well, children_in, ChildrenMeet, has_kind}};
+ghost use Rattle.sim_tree.specs.Nodes.{is_node, leaf_text as leaf_text_data, mark_in as mark_in_data, marks_in, node_in, of_kind, TreeMeets};
 ghost use Rattle.sim_tree.specs.Trees.{are_sound, bears as bears_parts, is_sound, no_children, node, node_of, nodes_of};
-ghost use Rattle.sim_tree.specs.declared.tree.TreeMark.TheVariants.{Add, Mul, Tokens};
+ghost use Rattle.std.specs.Prelude.{false, IfOk, is_some, nat_le, None, Some, true, ◌&&◌, ◌≡◌, ◌≢◌};
 
 use crate::leaves::{is_child_key, is_mark_key, is_plain_member, leaf_text, mark_from, own};
 use crate::names::is_name;

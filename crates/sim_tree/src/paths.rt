@@ -4,8 +4,7 @@ ghost use Rattle.std.specs.Prelude.{[], IfOk, option_map, ◌≡◌};
 ghost use Rattle.sim_tree.specs.{Tokens.tokens_in as tokens_in_value, Trees.node_of, Trees.value_of, Walks.number_at, Walks.value_at};
 
 use crate::{Names, Tree, tokens_in};
-use sim_base::{Fixed, Name, OutOfMemory};
-use std::alloc::Global;
+use sim_base::{Fixed, Global, Name, OutOfMemory};
 
 impl<'a> Tree<'a> {
     /// The value at the path, if one stands there.

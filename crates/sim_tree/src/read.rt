@@ -1,8 +1,7 @@
 //! A tree read from JSON: the three refusals in their order, one walk each.
 
+ghost use Rattle.{serde_json.specs.View.view, sim_tree.specs.{Nodes.{early_tree_fault, tree_in, TreeMeets}, Trees.{is_sound, levels, node_of}}};
 ghost use Rattle.std.specs.Prelude.{IfOk, IfSome, true, ◌≡◌, ◌≤◌};
-ghost use Rattle.serde_json.specs.View.{view};
-ghost use Rattle.sim_tree.specs.{Nodes.TreeMeets, Nodes.early_tree_fault, Nodes.tree_in, Trees.is_sound, Trees.levels, Trees.node_of};
 
 use crate::nodes::read_node;
 use crate::walks::{has_float, lies_beyond};

@@ -14,8 +14,7 @@ use crate::text::Text;
 use crate::tree::{Child, Tree, push_child};
 use crate::walks::{has_float, lies_beyond};
 use serde_json::{Map, Value};
-use sim_base::{Name, OutOfMemory};
-use std::alloc::Global;
+use sim_base::{Global, Name, OutOfMemory};
 
 /// A template as it is described: its name, its parent's name, if it has a parent, and the tree that is to be laid over
 /// the parent's.

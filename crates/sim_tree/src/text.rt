@@ -3,8 +3,7 @@
 
 ghost use Rattle.std.specs.Prelude.{◌≡◌, IfOk, string_bytes};
 
-use sim_base::OutOfMemory;
-use std::alloc::Global;
+use sim_base::{Global, OutOfMemory};
 use std::borrow::CowStr;
 use std::marker::Model;
 

@@ -4,8 +4,7 @@ ghost use Rattle.std.specs.Prelude.{◌≡◌, [], ◌∷◌, ◌++◌, IfOk, On
 ghost use Rattle.sim_tree.specs.Tokens.{is_word as is_word_of_bytes, tokens_of};
 
 use crate::text::Text;
-use sim_base::{Items, OutOfMemory};
-use std::alloc::Global;
+use sim_base::{Global, Items, OutOfMemory};
 
 /// A list of texts.
 pub type Names<'a> = Items<Text<'a>>;

@@ -5,8 +5,7 @@ ghost use Rattle.std.specs.Prelude.{◌≡◌, [], ◌∷◌, ◌++◌, map, IfO
 ghost use Rattle.sim_tree.specs.Trees.{child_named, named_of, node_of, nodes_of, under};
 
 use crate::text::Text;
-use sim_base::{Name, OutOfMemory};
-use std::alloc::Global;
+use sim_base::{Global, Name, OutOfMemory};
 
 /// What becomes of the node below, where a node with this mark is laid over it.
 #[derive(Clone, Copy, Debug, PartialEq, Eq)]

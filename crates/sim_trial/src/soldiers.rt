@@ -1,9 +1,8 @@
 //! The soldiers of a trial, the first one of player 1, the next of player 2, and so on in turn. Two steps of the random
 //! word place each: the first along x, on its player's side of the ground, the second along z.
 
+ghost use Rattle.{sim_base.specs.Places.next_word as word_after, sim_trial.specs.Trial.{player_of as player_at, soldier_text, soldiers_text, x_of, z_of}};
 ghost use Rattle.std.specs.Prelude.{IfOk, OnOk, string_bytes, ◌++◌, ◌+◌, ◌<◌, ◌^◌, ◌≡◌};
-ghost use Rattle.sim_base.specs.Places.{next_word as word_after};
-ghost use Rattle.sim_trial.specs.Trial.{player_of as player_at, soldier_text, soldiers_text, x_of, z_of};
 
 use crate::comma::push_comma;
 use sim_base::{OutOfMemory, next_word};

@@ -5,8 +5,7 @@ ghost use Rattle.sim_trial.specs.Trial.{ground_text, IsTrial, rules_text, templa
 
 use crate::soldiers::push_soldiers;
 use crate::walks::push_commands;
-use sim_base::OutOfMemory;
-use std::alloc::Global;
+use sim_base::{Global, OutOfMemory};
 
 const GROUND: &str =
     r#"{"size":[128,128],"closed":[[60,20,67,51],[60,76,67,107]],"players":[[2],[1]],"cap":1000,"delay":2,"turns":"#;

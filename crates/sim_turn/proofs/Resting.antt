@@ -1,14 +1,11 @@
 -- A state whose rows all rest goes through the phases as it is.
-use Rattle.sim_base.specs.Turn.{Hit, Hitting, fights, gone, hitting, is_idle, is_spent, lets_go, taken_from}
-use Rattle.sim_base.specs.declared.{change.Change.Change, change.Change.TheVariants.Word, state.Aim.Aim, state.Motion.Motion, state.Row.Row}
-use Rattle.sim_base.specs.{Commands.applied_all, Commands.removed, Limits.IsLooselyValid, Rows.arms_of, Rows.id_of, Rows.row_of, Rows.speed_of, Rows.target_of}
-use Rattle.sim_plans.proofs.{AimPlan.aim_plan_is, MovePlan.move_plan_is, RowByRow.hit_plan_is}
+use Rattle.sim_base.specs.{Commands.{applied_all, removed}, declared.{change.Change.{Change, TheVariants.Word}, state.{Aim.Aim, Motion.Motion, Row.Row}}}
+use Rattle.sim_base.specs.{Limits.IsLooselyValid, Rows.{arms_of, id_of, row_of, speed_of, target_of}, Turn.{fights, gone, Hit, Hitting, hitting, is_idle}}
+use Rattle.{sim_base.specs.Turn.{is_spent, lets_go, taken_from}, sim_plans.proofs.{AimPlan.aim_plan_is, MovePlan.move_plan_is, RowByRow.hit_plan_is}}
 use Rattle.sim_plans.specs.Plans.{aim_changes_by, aim_changes_of, fight_changes_by, fight_changes_of, halt_changes, hit_plan, hurt_changes_by, hurt_changes_of}
-use Rattle.sim_plans.specs.Plans.{move_changes_by, move_changes_of, next_target, target_changes}
-use Rattle.sim_turn.proofs.Common.{[], aimed, ap, false, filter, fold, hit, is_resting, List, list_all, map, moved, refl, Setup, State, sym, true, ℕ, ◌∙◌, ◌∷◌}
-use Rattle.sim_turn.{proofs.Common.◌≡◌, specs.Resting.is_resting_by}
-use Rattle.std.proofs.Common.{Bool, cond, flat_map, None, Option, Some, ℤ, ◌++◌}
-use Rattle.std.proofs.lemmas.{Bool.and_parts, Bool.not-true, Bool.true≢false, List.Concat.flat_map-cons}
+use Rattle.{sim_plans.specs.Plans.{move_changes_by, move_changes_of, next_target, target_changes}, sim_turn.proofs.Common.{aimed, ap, false, filter, fold, hit}}
+use Rattle.sim_turn.{proofs.Common.{is_resting, List, list_all, map, moved, refl, Setup, State, sym, true, ℕ, [], ◌∙◌, ◌∷◌, ◌≡◌}, specs.Resting.is_resting_by}
+use Rattle.std.proofs.{Common.{Bool, cond, flat_map, None, Option, Some, ℤ, ◌++◌}, lemmas.{Bool.{and_parts, not-true, true≢false}, List.Concat.flat_map-cons}}
 
 -- what is known of a row that rests
 record Rests (row : Row) : Type 0 where

@@ -1,9 +1,8 @@
 -- The commands of a turn stand together in a list that ascends by turns.
-use Rattle.{sim_base.specs.declared.command.Command.TheVariants.Resign, sim_turn.proofs.Common.[], sim_turn.proofs.Common.◌+◌, sim_turn.proofs.Common.◌-◌}
-use Rattle.sim_turn.proofs.Common.{◌<◌, ◌∷◌, ◌≡◌, ◌≤◌, ap, arith, false, filter, get_or, get_or-map, length, length-map, List, map, nat_lt, refl, suc, take}
-use Rattle.{sim_turn.proofs.Common.Timed, sim_turn.proofs.Common.true, sim_turn.proofs.Common.ℕ, std.proofs.Common.drop, std.proofs.Common.inl}
-use Rattle.std.proofs.{Common.inr, Common.zero, lemmas.Bool.cases_lt, lemmas.Bool.eq-eqb, lemmas.Bool.ltb-false, lemmas.Bool.ltb-true, lemmas.Bool.ne_eqb}
-use Rattle.std.specs.{List.Sorted.IsNonDecreasing, List.Sorted.IsNonDecreasingBy, List.Sorted.IsPartitionPoint, Prelude.◌==◌}
+use Rattle.{sim_base.specs.declared.command.Command.TheVariants.Resign, sim_turn.proofs.Common.{ap, arith, false, filter, get_or, get_or-map, length}}
+use Rattle.sim_turn.proofs.Common.{length-map, List, map, nat_lt, refl, suc, take, Timed, true, ℕ, [], ◌+◌, ◌-◌, ◌<◌, ◌∷◌, ◌≡◌, ◌≤◌}
+use Rattle.std.proofs.{Common.{drop, inl, inr, zero}, lemmas.Bool.{cases_lt, eq-eqb, ltb-false, ltb-true, ne_eqb}}
+use Rattle.std.specs.{List.Sorted.{IsNonDecreasing, IsNonDecreasingBy, IsPartitionPoint}, Prelude.◌==◌}
 
 abbrev turn_of : Timed → ℕ
 turn_of timed = timed.turn

@@ -1,6 +1,5 @@
 -- Rows that go through a turn as they are.
-use Rattle.sim_base.specs.{Turn.is_spent, declared.state.Aim.Aim, declared.state.Motion.Motion, declared.state.Row.Row}
-use Rattle.std.specs.Prelude.{Bool, false, None, not, Option, Some, ℤ}
+use Rattle.{sim_base.specs.{declared.state.{Aim.Aim, Motion.Motion, Row.Row}, Turn.is_spent}, std.specs.Prelude.{Bool, false, None, not, Option, Some, ℤ}}
 
 abbrev pub is_resting_by : Option Motion → Option Aim → Option ℤ → Bool
 is_resting_by None None health = not (is_spent health)

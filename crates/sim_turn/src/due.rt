@@ -1,9 +1,8 @@
 //! The commands of a match file that are given in a turn. They stand together, since all ascend by their turns, and are
 //! found by halves.
 
-ghost use Rattle.std.specs.List.Sorted.{IsNonDecreasing, IsPartitionPoint};
-ghost use Rattle.std.specs.Prelude.{◌≡◌, ◌+◌, ◌^◌, ◌<◌, ◌≤◌, true, false, map, length, nat_lt};
-ghost use Rattle.sim_base.specs.{Turn.orders_at, declared.setup.Timed.Timed as AnyTimed};
+ghost use Rattle.sim_base.specs.{declared.setup.Timed.Timed as AnyTimed, Turn.orders_at};
+ghost use Rattle.std.specs.{List.Sorted.{IsNonDecreasing, IsPartitionPoint}, Prelude.{false, length, map, nat_lt, true, ◌+◌, ◌<◌, ◌^◌, ◌≡◌, ◌≤◌}};
 
 use sim_base::Timed;
 

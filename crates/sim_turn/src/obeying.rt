@@ -1,13 +1,11 @@
 //! One command: its changes are planned from the state as it is, and then they are made.
 
-ghost use Rattle.sim_turn.specs.Turns.{MayObey};
-ghost use Rattle.{sim_base.specs.Commands.commanded, sim_board.specs.Boards.setup_in, sim_board.specs.Boards.state_in, sim_turn.specs.Turns.GoesOnTo};
+ghost use Rattle.{sim_base.specs.Commands.commanded, sim_board.specs.Boards.{setup_in, state_in}, sim_turn.specs.Turns.{GoesOnTo, MayObey}};
 
-use sim_base::{OutOfMemory, PlayerCommand};
+use sim_base::{Global, OutOfMemory, PlayerCommand};
 use sim_board::{Board, apply_all};
 use sim_orders::OrderTable;
 use sim_system::System;
-use std::alloc::Global;
 
 /// A command is obeyed.
 pub fn obey(

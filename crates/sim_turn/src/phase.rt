@@ -1,16 +1,14 @@
 //! The phases of a turn behind its commands: the changes of each are planned from the state as it is, and then they are made.
 
-ghost use Rattle.std.specs.Result.{ForOk};
-ghost use Rattle.{sim_board.specs.Boards.IsWhole, sim_board.specs.Boards.setup_in, sim_board.specs.Boards.state_in, sim_plans.specs.Plans.IsPlanOf};
-ghost use Rattle.{sim_plans.specs.SceneWords.Stands, sim_turn.specs.Phases.phased, sim_turn.specs.Turns.GoesOnTo};
+ghost use Rattle.sim_board.specs.Boards.{IsWhole, setup_in, state_in};
+ghost use Rattle.{sim_plans.specs.{Plans.IsPlanOf, SceneWords.Stands}, sim_turn.specs.{Phases.phased, Turns.GoesOnTo}, std.specs.Result.ForOk};
 
 use sim_attack::{aim_changes, gone_changes, hit_changes};
-use sim_base::{Changes, OutOfMemory};
+use sim_base::{Changes, Global, OutOfMemory};
 use sim_board::{Board, apply_all};
 use sim_motion::motion_changes;
 use sim_plans::Scene;
 use sim_system::System;
-use std::alloc::Global;
 
 /// Fighters choose their targets, rows move, fighters hit, and those without health leave.
 #[derive(Clone, Copy)]

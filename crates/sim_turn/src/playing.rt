@@ -1,16 +1,14 @@
 //! Turns with the match's own commands.
 
+ghost use Rattle.sim_base.specs.{Commands.commanded, declared.setup.Timed.Timed as AnyTimed, Turn.{from, own_turns}};
+ghost use Rattle.{sim_board.specs.Boards.{setup_in, state_in}, sim_turn.specs.Turns.{GoesOnTo, MayObeyAll, MayPlayUntil, PlaysTo}};
 ghost use Rattle.std.specs.Prelude.{fold, map, ◌-◌};
-ghost use Rattle.sim_base.specs.{Commands.commanded, Turn.from, Turn.own_turns, declared.setup.Timed.Timed as AnyTimed};
-ghost use Rattle.sim_board.specs.Boards.{setup_in, state_in};
-ghost use Rattle.sim_turn.specs.Turns.{GoesOnTo, MayObeyAll, MayPlayUntil, PlaysTo};
 
 use crate::{due_at, obey, run_phases};
-use sim_base::{OutOfMemory, Timed};
+use sim_base::{Global, OutOfMemory, Timed};
 use sim_board::Board;
 use sim_orders::OrderTable;
 use sim_system::System;
-use std::alloc::Global;
 
 /// Plays turns with the match's own commands, until the state has come to a turn. After an error the board may only be
 /// finished.

@@ -1,18 +1,15 @@
 //! A turn with its commands.
 
-ghost use Rattle.std.specs.Prelude.{[], fold};
-ghost use Rattle.sim_base.specs.{Commands.commanded, Turn.aimed, Turn.gone, Turn.hit, Turn.moved, Turn.turn as turn_by};
-ghost use Rattle.sim_board.specs.Boards.{IsWhole, setup_in, state_in};
-ghost use Rattle.sim_turn.specs.Turns.{GoesOnTo, MayEndTurn, MayObeyAll, MayPlay, PlaysTo};
+ghost use Rattle.{sim_base.specs.{Commands.commanded, Turn.{aimed, gone, hit, moved, turn as turn_by}}, sim_board.specs.Boards.{IsWhole, setup_in, state_in}};
+ghost use Rattle.{sim_turn.specs.Turns.{GoesOnTo, MayEndTurn, MayObeyAll, MayPlay, PlaysTo}, std.specs.Prelude.{fold, []}};
 
 use crate::obeying::obey;
 use crate::phase::Phase;
 use crate::rest::all_rest;
-use sim_base::{Change, OutOfMemory, PlayerCommand};
+use sim_base::{Change, Global, OutOfMemory, PlayerCommand};
 use sim_board::Board;
 use sim_orders::OrderTable;
 use sim_system::System;
-use std::alloc::Global;
 
 /// Plays a turn with these commands, each of a player of the match. After an error the board may only be finished.
 pub fn turn(

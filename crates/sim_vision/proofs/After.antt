@@ -1,9 +1,8 @@
 -- What is explored after any list of states: what was explored before, or was visible in one of them.
-use Rattle.sim_vision.proofs.{Common.vision_next, Common.was_visible, Common.◌∙◌, Flat.cells_long, Flat.explored_long}
-use Rattle.sim_vision.proofs.Common.{all_counts, all_seen, all_visible, ap, arith, blind, Cell, cells_in, cells_of, explored_with, is_visible, last_of}
-use Rattle.sim_vision.proofs.Common.{length-append, length-map, length-replicate, players_of, range_with_len, Setup, size_of, State, sym, Vision, vision_after}
-use Rattle.sim_vision.proofs.Common.{◌≡◌, ℕ, zero, suc, ◌+◌, ◌*◌, Bool, true, false, ◌||◌, List, [], ◌∷◌, ◌++◌, map, length, replicate, flat_map, refl}
-use Rattle.sim_base.proofs.Tests.{or_false}
+use Rattle.{sim_base.proofs.Tests.or_false, sim_vision.proofs.Common.{all_counts, all_seen, all_visible, ap, arith, blind, Bool, Cell, cells_in, cells_of}}
+use Rattle.sim_vision.proofs.Common.{explored_with, false, flat_map, is_visible, last_of, length, length-append, length-map, length-replicate, List, map}
+use Rattle.sim_vision.proofs.Common.{players_of, range_with_len, refl, replicate, Setup, size_of, State, suc, sym, true, Vision, vision_after, vision_next}
+use Rattle.sim_vision.proofs.{Common.{was_visible, zero, ℕ, [], ◌*◌, ◌++◌, ◌+◌, ◌||◌, ◌∙◌, ◌∷◌, ◌≡◌}, Flat.{cells_long, explored_long}}
 
 -- ---- the union of lists, cell by cell
 

@@ -1,12 +1,11 @@
 -- Explored cells of a file: why they are refused, and that a fog which takes them over is kept.
-use Rattle.sim_vision.proofs.{Flat.map_flat, Flat.place_at, Places.place_below, Seeing.any_counted}
-use Rattle.sim_vision.proofs.Common.{SightFault, size_of, subst, sym, true≢false, Unseen, visible_of, Vision, ⊎_elim, ◌∙◌}
-use Rattle.sim_vision.proofs.Common.{area_of, arith, cases_lt, cells_in, cells_of, count_at, count_in, counts_of, eq-eqb, Extent, extent_in, extent_of, Fog}
-use Rattle.sim_vision.proofs.Common.{get_or, IfOk, Some, None, Ok, Err, zip, flat_map, Option, Result, Vec, refl, all_counts, all_visible, and_parts, ap}
-use Rattle.sim_vision.proofs.Common.{get_or-map, get_or_past, Global, is_bit, is_missed, is_set, is_unseen, Keeps, leb-true, Length, length-map, list_all}
-use Rattle.sim_vision.proofs.Common.{list_any, lt-ltb, Mark, ne_eqb, NotBit, one_if, or_parts, OutOfMemory, place_of, players_of, refusal_of, Row, sees, Setup}
-use Rattle.sim_vision.proofs.Common.{◌≡◌, ℕ, zero, suc, ◌*◌, ◌<◌, ◌≤◌, Bool, true, false, cond, not, ◌&&◌, ◌||◌, eqb, ltb, leb, List, [], ◌∷◌, map, length}
-use Rattle.std.proofs.lemmas.Simd.{map-map}
+use Rattle.sim_vision.proofs.Common.{all_counts, all_visible, and_parts, ap, area_of, arith, Bool, cases_lt, cells_in, cells_of, cond, count_at, count_in}
+use Rattle.sim_vision.proofs.Common.{counts_of, eq-eqb, eqb, Err, Extent, extent_in, extent_of, false, flat_map, Fog, get_or, get_or-map, get_or_past, Global}
+use Rattle.sim_vision.proofs.Common.{IfOk, is_bit, is_missed, is_set, is_unseen, Keeps, leb, leb-true, Length, length, length-map, List, list_all, list_any}
+use Rattle.sim_vision.proofs.Common.{lt-ltb, ltb, map, Mark, ne_eqb, None, not, NotBit, Ok, one_if, Option, or_parts, OutOfMemory, place_of, players_of, refl}
+use Rattle.sim_vision.proofs.Common.{refusal_of, Result, Row, sees, Setup, SightFault, size_of, Some, subst, suc, sym, true, true≢false, Unseen, Vec}
+use Rattle.sim_vision.proofs.Common.{visible_of, Vision, zero, zip, ℕ, ⊎_elim, [], ◌&&◌, ◌*◌, ◌<◌, ◌||◌, ◌∙◌, ◌∷◌, ◌≡◌, ◌≤◌}
+use Rattle.{sim_vision.proofs.{Flat.{map_flat, place_at}, Places.place_below, Seeing.any_counted}, std.proofs.lemmas.Simd.map-map}
 
 -- the cause by the three tests
 abbrev pub verdict : Bool → Bool → Bool → Option SightFault

@@ -1,12 +1,11 @@
 -- Counts of marks are counts of rows, and what is counted is visible.
-use Rattle.sim_vision.proofs.{Common.sum_follows, Common.SumFollows, Common.sym, Common.true≢false, Common.weight_at, Common.◌∙◌, Places.place_below}
-use Rattle.sim_vision.proofs.{Flat.by_players, Flat.explored_at, Flat.explored_long, Flat.place_at, Flat.StandsAt, Marking.marks_known, Marking.shifts_known}
-use Rattle.sim_vision.proofs.Common.{count_by, refl, All-nil, all_counts, all_visible, ap, AreLit, arith, CanFollow, Cell, count_at, count_by-le-length}
-use Rattle.sim_vision.proofs.Common.{count_in, explored_with, ext_get_or, extent_in, extent_of, flag_in, Fog, get_or-map, get_or-replicate, HasFollowed}
-use Rattle.sim_vision.proofs.Common.{is_visible, IsAscending, IsAt, IsKnownMark, IsKnownShift, IsSetup, IsValid, Keeps, length-map, list_any, lt-ltb, Mark}
-use Rattle.sim_vision.proofs.Common.{mark_of, mark_sees, marks_ascend, marks_of, place_of, reaches_of, Row, sees, Setup, shifts_between, State, sum_by-cons}
-use Rattle.sim_vision.proofs.Common.{◌≡◌, ℕ, ◌+◌, ◌*◌, ◌<◌, ◌≤◌, Bool, true, false, cond, ◌||◌, ltb, List, [], ◌∷◌, map, length, get_or, replicate, All}
-use Rattle.sim_vision.proofs.Following.{born_at}
+use Rattle.sim_vision.proofs.Common.{All, All-nil, all_counts, all_visible, ap, AreLit, arith, Bool, CanFollow, Cell, cond, count_at, count_by}
+use Rattle.sim_vision.proofs.Common.{count_by-le-length, count_in, explored_with, ext_get_or, extent_in, extent_of, false, flag_in, Fog, get_or, get_or-map}
+use Rattle.sim_vision.proofs.Common.{get_or-replicate, HasFollowed, is_visible, IsAscending, IsAt, IsKnownMark, IsKnownShift, IsSetup, IsValid, Keeps, length}
+use Rattle.sim_vision.proofs.Common.{length-map, List, list_any, lt-ltb, ltb, map, Mark, mark_of, mark_sees, marks_ascend, marks_of, place_of, reaches_of, refl}
+use Rattle.sim_vision.proofs.Common.{replicate, Row, sees, Setup, shifts_between, State, sum_by-cons, sum_follows, SumFollows, sym, true, true≢false, weight_at}
+use Rattle.sim_vision.proofs.{Common.{ℕ, [], ◌*◌, ◌+◌, ◌<◌, ◌||◌, ◌∙◌, ◌∷◌, ◌≡◌, ◌≤◌}, Flat.{by_players, explored_at, explored_long, place_at, StandsAt}}
+use Rattle.sim_vision.proofs.{Following.born_at, Marking.{marks_known, shifts_known}, Places.place_below}
 
 -- ---- counts over rows
 

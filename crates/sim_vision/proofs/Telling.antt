@@ -1,11 +1,10 @@
 -- What is told of a sight is told of the states that it followed.
-use Rattle.sim_vision.proofs.{Flat.by_players, Flat.cells_long, Seeing.any_counted}
-use Rattle.sim_vision.proofs.After.{counts_last, counts_later, explored_all, explored_start, setup_stays, with_all}
-use Rattle.sim_vision.proofs.Common.{cells_where, count_at, drop-append-add, explored_with, extent_in, flag_in, is_set, is_visible, joined_at, last_of}
-use Rattle.sim_vision.proofs.Common.{count_by, flat_map, refl, all_counts, all_seen, ap, append-nil, append_assoc, arith, blind, Cell, cells_in, cells_of}
-use Rattle.sim_vision.proofs.Common.{length-map, part_of, players_of, range_with_len, Row, sees, Setup, sight_line, sight_lines, sight_text, size_of, State}
-use Rattle.sim_vision.proofs.Common.{sum_by-cons, sym, take-append_seam, Vision, vision_after, was_visible, ◌∙◌}
-use Rattle.sim_vision.proofs.Common.{◌≡◌, ℕ, zero, suc, ◌+◌, ◌-◌, ◌*◌, ◌<◌, ◌≤◌, Bool, false, cond, ◌||◌, ltb, List, [], ◌∷◌, ◌++◌, map, length, take, drop}
+use Rattle.sim_vision.proofs.{After.{counts_last, counts_later, explored_all, explored_start, setup_stays, with_all}, Common.all_counts}
+use Rattle.sim_vision.proofs.Common.{all_seen, ap, append-nil, append_assoc, arith, blind, Bool, Cell, cells_in, cells_of, cells_where, cond, count_at}
+use Rattle.sim_vision.proofs.Common.{count_by, drop, drop-append-add, explored_with, extent_in, false, flag_in, flat_map, is_set, is_visible, joined_at}
+use Rattle.sim_vision.proofs.Common.{last_of, length, length-map, List, ltb, map, part_of, players_of, range_with_len, refl, Row, sees, Setup, sight_line}
+use Rattle.sim_vision.proofs.Common.{sight_lines, sight_text, size_of, State, suc, sum_by-cons, sym, take, take-append_seam, Vision, vision_after, was_visible}
+use Rattle.sim_vision.proofs.{Common.{zero, ℕ, [], ◌*◌, ◌++◌, ◌+◌, ◌-◌, ◌<◌, ◌||◌, ◌∙◌, ◌∷◌, ◌≡◌, ◌≤◌}, Flat.{by_players, cells_long}, Seeing.any_counted}
 
 -- ---- the part of a player in a list of all cells of all players
 

@@ -1,9 +1,8 @@
 -- What a player sees: the cells that lie near one of his rows.
 use Rattle.sim_vision.specs.Common.{abs_diff, Arms, Cell, cell_of, cells_of, IsArms, list_all, list_any, range_with_len, Row, Setup, size_of, State, Template}
-use Rattle.sim_vision.specs.declared.fault.SightFault.{SightFault, TheVariants.Length, TheVariants.NotBit, TheVariants.Unseen}
-use Rattle.std.specs.Prelude.{[], Bool, count_by, false, fold, IfSome, if◌then◌else◌, length, List, map, nat_le, nat_lt, None, not, Option, option_map}
-use Rattle.std.specs.Prelude.{replicate, slice_index, slice_range, Some, unsigned_abs, unwrap_or, ℕ, ◌&&◌, ◌*◌, ◌+◌, ◌-◌, ◌/◌, ◌==◌, ◌||◌, ◌∷◌}
-use Rattle.{sim_vision.specs.Common.unit, std.specs.List.flat_map, std.specs.List.zip}
+use Rattle.sim_vision.specs.{Common.unit, declared.fault.SightFault.{SightFault, TheVariants.{Length, NotBit, Unseen}}}
+use Rattle.std.specs.{List.{flat_map, zip}, Prelude.{Bool, count_by, false, fold, IfSome, if◌then◌else◌, length, List, map, nat_le, nat_lt, None, not, Option}}
+use Rattle.std.specs.Prelude.{option_map, replicate, slice_index, slice_range, Some, unsigned_abs, unwrap_or, ℕ, [], ◌&&◌, ◌*◌, ◌+◌, ◌-◌, ◌/◌, ◌==◌, ◌||◌, ◌∷◌}
 
 -- how far entities of a template see: the whole metres of their vision, rounded down, or 0 without an attack
 abbrev pub reach_of : Template → ℕ

@@ -5,8 +5,7 @@ ghost use Rattle.std.specs.Prelude.{false, IfOk, ℕ, ◌*◌, ◌+◌, ◌-◌,
 ghost use Rattle.sim_vision.specs.{Common.Cell as ACell, Common.IsRoot, Vision.is_in_disc, Watching.AreHalves, Watching.IsSpanWhere};
 
 use crate::span::Span;
-use sim_base::{Cell, OutOfMemory, root};
-use std::alloc::Global;
+use sim_base::{Cell, Global, OutOfMemory, root};
 use std::marker::Model;
 
 /// The cells within a reach of one in the middle. Contracts see the reach, in cells.
@@ -17,8 +16,7 @@ pub struct Disc {
 }
 
 impl Model for Disc {
-    ghost use Rattle.std.specs.Prelude.{ℕ};
-    ghost use Rattle.sim_vision.specs.Watching.{AreHalves};
+    ghost use Rattle.{sim_vision.specs.Watching.AreHalves, std.specs.Prelude.ℕ};
 
     ghost Value = { ℕ };
 

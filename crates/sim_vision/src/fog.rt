@@ -6,9 +6,8 @@ ghost use Rattle.sim_vision.specs.{Vision.is_set, Watching.IsExtent};
 use crate::crossing::{Crossing, next_crossing, rows_of, span_of};
 use crate::disc::Disc;
 use crate::row::turn_row;
-use sim_base::OutOfMemory;
+use sim_base::{Global, OutOfMemory};
 use sim_trail::Shift;
-use std::alloc::Global;
 
 /// The counts and the explored cells of a ground of `width` by `depth` cells, for this many players.
 #[derive(Debug, Drop)]
@@ -24,11 +23,10 @@ pub struct Fog {
 }
 
 impl Fog {
-    ghost use Rattle.std.specs.List.{zip};
-    ghost use Rattle.std.specs.Prelude.{All, false, IfOk, length, map, replicate, slice_range, ◌*◌, ◌+◌, ◌-◌, ◌<◌, ◌≡◌, ◌≤◌};
+    ghost use Rattle.sim_vision.specs.{Common.list_any, Fogs.{extent_of, IsSameExtent, Turns, TurnsAt}, Vision.{is_missed, is_set}};
     ghost use Rattle.sim_vision.specs.Watching.{AreLit, CanFollow, CanTurn, CanTurnAt, HasFollowed, IsExtent, IsKnownCrossing, IsKnownShift, IsOwnedBy};
     ghost use Rattle.sim_vision.specs.Watching.{IsPlayerOf, IsRowOf, one_if, start_of};
-    ghost use Rattle.sim_vision.specs.{Common.list_any, Fogs.IsSameExtent, Fogs.Turns, Fogs.TurnsAt, Fogs.extent_of, Vision.is_missed, Vision.is_set};
+    ghost use Rattle.std.specs.{List.zip, Prelude.{All, false, IfOk, length, map, replicate, slice_range, ◌*◌, ◌+◌, ◌-◌, ◌<◌, ◌≡◌, ◌≤◌}};
 
     /// Nothing is seen, and nothing explored.
     pub fn new(alloc: Global, width: u16, depth: u16, players: u8) -> Result<Fog, OutOfMemory>

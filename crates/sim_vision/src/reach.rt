@@ -4,8 +4,7 @@ ghost use Rattle.std.specs.Prelude.{◌≡◌, ◌≤◌, map, IfOk, All};
 ghost use Rattle.sim_vision.specs.Vision.{HasReach, reach_of as reach_of_template};
 
 use crate::disc::Disc;
-use sim_base::{OutOfMemory, Template};
-use std::alloc::Global;
+use sim_base::{Global, OutOfMemory, Template};
 
 // The whole metres of the vision of a template, rounded down, or 0 where it has no attack.
 fn reach_of(template: &Template) -> u16

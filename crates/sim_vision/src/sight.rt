@@ -1,19 +1,17 @@
 //! What all players see and have seen, kept from state to state.
 
-ghost use Rattle.sim_vision.specs.declared.fault.SightFault.TheVariants as faults;
-ghost use Rattle.std.specs.List.{zip};
-ghost use Rattle.std.specs.Prelude.{All, Err, false, IfErr, IfOk, length, List, map, None, OnErr, OnOk, Some, take, true, ℕ, ◌*◌, ◌∷◌, ◌≡◌, ◌≤◌, ◌⊎◌};
-ghost use Rattle.sim_vision.specs.Common.{IsSetup, IsValid, Row as AnyRow, State as AnyState, list_all, list_any};
+ghost use Rattle.sim_vision.specs.{Common.{IsSetup, IsValid, list_all, list_any, Row as AnyRow, State as AnyState}, Told.explored_file};
 ghost use Rattle.sim_vision.specs.Vision.{all_counts, all_seen, blind, cells_in, explored_with, is_bit, is_missed, is_set, joined_at, last_of, part_of};
-ghost use Rattle.sim_vision.specs.{Told.explored_file, Vision.refusal_of, Vision.vision_after, Vision.vision_next};
+ghost use Rattle.{sim_vision.specs.Vision.{refusal_of, vision_after, vision_next}, std.specs.List.zip};
+ghost use Rattle.std.specs.Prelude.{All, Err, false, IfErr, IfOk, length, List, map, None, OnErr, OnOk, Some, take, true, ℕ, ◌*◌, ◌∷◌, ◌≡◌, ◌≤◌, ◌⊎◌};
+ghost use Rattle.sim_vision.specs.declared.fault.SightFault.TheVariants as faults;
 
 use crate::disc::Disc;
 use crate::fault::SightFault;
 use crate::fog::Fog;
 use crate::reach::discs_of;
-use sim_base::{OutOfMemory, Setup, State};
+use sim_base::{Global, OutOfMemory, Setup, State};
 use sim_trail::Trail;
-use std::alloc::Global;
 use std::marker::Model;
 
 /// For each player how many of his rows see each cell, and which cells he has explored. Contracts see the match, and both as

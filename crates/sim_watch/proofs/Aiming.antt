@@ -1,12 +1,10 @@
 -- Who aims at whom: what is asked of the groups, and the groups after a change.
-use Rattle.sim_fact_lists.specs.{Groups.keyed, Groups.left_by, Groups.listed, declared.group.Group.Group}
-use Rattle.sim_system.specs.{Meanings.Meaning, Meanings.watchers_among, Notes.NoteFits, Notes.noted, declared.note.Note.Note}
-use Rattle.sim_watch.proofs.Common.{[], aim_key, aim_of, Aimer, ap, AreGroups, Ascend, Bool, Fact, fact_with, facts_in, false, id_of_fact, joined_by, kept}
-use Rattle.sim_watch.proofs.Common.{kept_id, List, map, None, not, Option, refl, Rising, rising, rising_kept, Some, subst, sym, told_in, true, Watch, with_only}
-use Rattle.std.{proofs.lemmas.Bool.ne_eqb, specs.Prelude.filter, specs.Prelude.◌&&◌}
-use Rattle.{sim_base.specs.declared.setup.Land.Land, sim_fact_lists.proofs.Grouping.relisted, sim_fact_lists.proofs.OneFact.noted_is}
-use Rattle.{sim_system.specs.declared.note.Note.TheVariants.Born, sim_watch.proofs.Common.ℕ, sim_watch.proofs.Common.◌==◌, sim_watch.proofs.Common.◌∙◌}
-use Rattle.{sim_watch.proofs.Common.◌∷◌, sim_watch.proofs.Common.◌≡◌, std.proofs.Common.MatchOption, std.proofs.lemmas.Bool.eq-eqb}
+use Rattle.sim_base.specs.declared.setup.Land.{Land}
+use Rattle.sim_fact_lists.{proofs.{Grouping.relisted, OneFact.noted_is}, specs.{declared.group.Group.Group, Groups.{keyed, left_by, listed}}}
+use Rattle.sim_system.specs.{declared.note.Note.{Note, TheVariants.Born}, Meanings.{Meaning, watchers_among}, Notes.{noted, NoteFits}}
+use Rattle.sim_watch.proofs.Common.{aim_key, aim_of, Aimer, ap, AreGroups, Ascend, Bool, Fact, fact_with, facts_in, false, id_of_fact, joined_by, kept, kept_id}
+use Rattle.sim_watch.proofs.Common.{List, map, None, not, Option, refl, Rising, rising, rising_kept, Some, subst, sym, told_in, true, Watch, with_only, ℕ, []}
+use Rattle.{sim_watch.proofs.Common.{◌==◌, ◌∙◌, ◌∷◌, ◌≡◌}, std.{proofs.{Common.MatchOption, lemmas.Bool.{eq-eqb, ne_eqb}}, specs.Prelude.{filter, ◌&&◌}}}
 
 nobody : (facts : List Fact) → map id_of_fact (filter (λ (f : Fact). false) facts) ≡ []
 nobody [] = refl

@@ -1,15 +1,13 @@
 -- A list of entities and their targets: where one stands, and what the list stands for after an edit there.
 use Rattle.sim_fact_lists.proofs.OneFact.{Above, above_kept, after_is, ascends, found_put, missing_above, without_missing}
-use Rattle.sim_fact_lists.proofs.Standing.{found_there, missing_there, nothing_new, put_new, put_nothing, put_over, rises}
-use Rattle.sim_watch.proofs.Common.{[], aim_of, Aimer, ap, arith, Ascend, Bool, cond, cons_option, Err, Fact, fact_with, facts_in, false, id_of_fact, kept}
-use Rattle.sim_watch.proofs.Common.{kept_id, kept_of, List, map, missing_found, None, not, Ok, Option, option_and_then, refl, replaced, Result, Rising, rising}
-use Rattle.sim_watch.proofs.Common.{rising_kept, Some, subst, sym, take, told_in, true, Watch, with_only, ℕ, ◌==◌, ◌∙◌, ◌∷◌, ◌≡◌}
-use Rattle.std.proofs.Common.{set, suc, zero, ◌<◌, ◌≤◌}
-use Rattle.std.proofs.lemmas.{Bool.Decides.nat_tests, Bool.cases_lt, Bool.eqb-true, Cmp.ranked, List.get_or-map, List.length-map, List.map-set, List.take_all}
-use Rattle.std.specs.List.{Sorted.IsBinarySearchResult, Sorted.IsNonDecreasingBy, Sorted.IsSearchInRange, Sorted.IsStrictlyIncreasing, insert, remove}
-use Rattle.std.specs.{Ordering.nat_cmp, Ordering.ordering_index, Prelude.IsOk, Prelude.MatchResult, Prelude.is_ok}
-use Rattle.{sim_fact_lists.specs.Changes.Belongs, sim_fact_lists.specs.Changes.Stands, sim_system.specs.Notes.without, sim_system.specs.declared.kind.Kind.Kind}
-use Rattle.{sim_watch.specs.Aimers.aim_in, std.proofs.Common.get_or, std.proofs.Common.inl, std.proofs.Common.inr, std.proofs.Common.length}
+use Rattle.sim_fact_lists.{proofs.Standing.{found_there, missing_there, nothing_new, put_new, put_nothing, put_over, rises}, specs.Changes.{Belongs, Stands}}
+use Rattle.sim_system.specs.{declared.kind.Kind.Kind, Notes.without}
+use Rattle.sim_watch.proofs.Common.{aim_of, Aimer, ap, arith, Ascend, Bool, cond, cons_option, Err, Fact, fact_with, facts_in, false, id_of_fact, kept, kept_id}
+use Rattle.sim_watch.proofs.Common.{kept_of, List, map, missing_found, None, not, Ok, Option, option_and_then, refl, replaced, Result, Rising, rising}
+use Rattle.sim_watch.{proofs.Common.{rising_kept, Some, subst, sym, take, told_in, true, Watch, with_only, ℕ, [], ◌==◌, ◌∙◌, ◌∷◌, ◌≡◌}, specs.Aimers.aim_in}
+use Rattle.std.proofs.{Common.{get_or, inl, inr, length, set, suc, zero, ◌<◌, ◌≤◌}, lemmas.{Bool.{cases_lt, Decides.nat_tests, eqb-true}, Cmp.ranked}}
+use Rattle.std.{proofs.lemmas.List.{get_or-map, length-map, map-set, take_all}, specs.List.{insert, remove, Sorted.{IsBinarySearchResult, IsNonDecreasingBy}}}
+use Rattle.std.specs.{List.Sorted.{IsSearchInRange, IsStrictlyIncreasing}, Ordering.{nat_cmp, ordering_index}, Prelude.{is_ok, IsOk, MatchResult}}
 
 -- What is kept of a list of facts of which one is replaced.
 

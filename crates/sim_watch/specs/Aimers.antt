@@ -1,7 +1,6 @@
 -- What a list of entities and their targets stands for.
-use Rattle.sim_fact_lists.specs.{Changes.with_only, Groups.HasRoom, declared.group.Group.Group}
-use Rattle.sim_system.specs.{Notes.aim_of, Notes.fact_with, Notes.kept, Notes.kept_of, declared.fact.Fact.Fact, declared.kind.Kind.TheVariants.Watch}
-use Rattle.sim_watch.specs.declared.aimer.Aimer.{Aimer}
+use Rattle.{sim_fact_lists.specs.{Changes.with_only, declared.group.Group.Group, Groups.HasRoom}, sim_system.specs.declared.fact.Fact.Fact}
+use Rattle.{sim_system.specs.{declared.kind.Kind.TheVariants.Watch, Notes.{aim_of, fact_with, kept, kept_of}}, sim_watch.specs.declared.aimer.Aimer.Aimer}
 use Rattle.std.specs.Prelude.{List, map, Option, ℕ, ◌≡◌}
 
 -- an entity of which only its target is told

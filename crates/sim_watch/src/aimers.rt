@@ -1,15 +1,13 @@
 //! The target of each entity, in a list by id. One that has no target stays there until it is gone, so that nothing moves along
 //! the list when it takes the next. An entity is looked for first where the last one was found, and a little behind it.
 
-ghost use Rattle.std.specs.Prelude.{[], IfOk, IfSome, MatchResult, None, OnOk, vec_capacity, vec_len, ◌<◌, ◌≡◌};
-ghost use Rattle.sim_fact_lists.specs.Changes.{Ascend, Belongs, Stands, with_only};
-ghost use Rattle.sim_system.specs.{Notes.aim_of, Notes.kept, Notes.kept_of, declared.kind.Kind.TheVariants.Watch as WatchKind};
-ghost use Rattle.sim_watch.specs.Aimers.{Aims, facts_in, told_in};
+ghost use Rattle.{sim_fact_lists.specs.Changes.{Ascend, Belongs, Stands, with_only}, sim_system.specs.declared.kind.Kind.TheVariants.Watch as WatchKind};
+ghost use Rattle.{sim_system.specs.Notes.{aim_of, kept, kept_of}, sim_watch.specs.Aimers.{Aims, facts_in, told_in}};
+ghost use Rattle.std.specs.Prelude.{IfOk, IfSome, MatchResult, None, OnOk, vec_capacity, vec_len, [], ◌<◌, ◌≡◌};
 
 use crate::aimer::Aimer;
-use sim_base::OutOfMemory;
+use sim_base::{Global, OutOfMemory};
 use sim_system::Fact;
-use std::alloc::Global;
 use std::cell::Cell;
 
 // How many entities are looked at from a place on.

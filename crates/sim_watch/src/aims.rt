@@ -6,10 +6,9 @@ ghost use Rattle.sim_fact_lists.specs.{Changes.Ascend, Groups.AreGroups, Groups.
 ghost use Rattle.sim_system.specs.{Notes.aim_of, Notes.kept, Notes.kept_of, declared.kind.Kind.TheVariants.Watch as WatchKind};
 ghost use Rattle.sim_watch.specs.Aimers.{aim_key, HasRoomFor};
 
-use sim_base::OutOfMemory;
+use sim_base::{Global, OutOfMemory};
 use sim_fact_lists::Groups;
 use sim_system::Fact;
-use std::alloc::Global;
 
 /// Those of these facts.
 pub fn groups_of(alloc: Global, facts: &[Fact]) -> Result<Groups, OutOfMemory>

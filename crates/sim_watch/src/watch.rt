@@ -7,10 +7,9 @@ ghost use Rattle.sim_watch.specs.Aimers.{aim_key, facts_in, told_in};
 
 use crate::aimers::Aimers;
 use crate::aims::{groups_of, join, leave, make_room};
-use sim_base::{Ids, Land, OutOfMemory};
+use sim_base::{Global, Ids, Land, OutOfMemory};
 use sim_fact_lists::{Groups, copy_of};
 use sim_system::{Answer, Ask, Fact, Kind, Note, System};
-use std::alloc::Global;
 
 /// Keeps the target of each entity that has one, and who aims at each target.
 #[derive(Drop)]

@@ -2,15 +2,14 @@
 use Rattle.sim_wire.specs.declared.fault.WireFault.TheVariants as faults
 use Rattle.sim_plain.specs.declared.message.DownOf.TheVariants as down
 use Rattle.sim_plain.specs.declared.message.UpOf.TheVariants as up
-use Rattle.sim_wire.proofs.Common.{Place, point_bytes, read_and, refl, Resign, Stop, subst, sym, Train, true, u16_back, u16_bytes, u32_back, u32_bytes, up_at}
-use Rattle.sim_wire.proofs.Common.{UpFits, UpOf, Walk, up_body, up_form, ℕ, ◌++◌, ◌<◌, ◌^◌, ◌∙◌, ◌∷◌, ◌≡◌}
-use Rattle.sim_wire.proofs.Common.{[], ap, append-nil, append_assoc, arith, Attack, Bool, byte_at, Command, command_bytes, CommandFits, Delete, down_at}
-use Rattle.sim_wire.proofs.Common.{down_body, down_form, DownFits, DownOf, false, false≢true, flat_map, ids_bytes, IdsFit, IsDownFrame, IsUpFrame, length, List}
-use Rattle.sim_wire.proofs.Standing.{down_unread, short_down, short_up, size_back, up_same, up_unread}
-use Rattle.sim_wire.proofs.{Formed.down_formed, Formed.up_formed, Forms.down_has_form, Forms.up_has_form, Fronts.AreBytes, Standing.down_same}
-use Rattle.sim_wire.specs.Memory.{command_takes, down_carries, down_command_takes, down_state_takes, down_tag_takes, down_takes, has_some, ids_take, kind_takes}
-use Rattle.sim_wire.specs.Memory.{names_some, state_takes, up_carries, up_command_takes, up_state_takes, up_tag_takes, up_takes}
-use Rattle.sim_wire.specs.{Reading.Gives, Refusals.GivesMessage, Refusals.RefusedFor, declared.fault.WireFault.WireFault}
+use Rattle.sim_wire.proofs.Common.{ap, append-nil, append_assoc, arith, Attack, Bool, byte_at, Command, command_bytes, CommandFits, Delete, down_at, down_body}
+use Rattle.sim_wire.proofs.Common.{down_form, DownFits, DownOf, false, false≢true, flat_map, ids_bytes, IdsFit, IsDownFrame, IsUpFrame, length, List, Place}
+use Rattle.sim_wire.proofs.Common.{point_bytes, read_and, refl, Resign, Stop, subst, sym, Train, true, u16_back, u16_bytes, u32_back, u32_bytes, up_at, up_body}
+use Rattle.sim_wire.proofs.{Common.{up_form, UpFits, UpOf, Walk, ℕ, [], ◌++◌, ◌<◌, ◌^◌, ◌∙◌, ◌∷◌, ◌≡◌}, Formed.{down_formed, up_formed}, Forms.down_has_form}
+use Rattle.sim_wire.proofs.{Forms.up_has_form, Fronts.AreBytes, Standing.{down_same, down_unread, short_down, short_up, size_back, up_same, up_unread}}
+use Rattle.sim_wire.specs.{declared.fault.WireFault.WireFault, Memory.{command_takes, down_carries, down_command_takes, down_state_takes, down_tag_takes}}
+use Rattle.sim_wire.specs.Memory.{down_takes, has_some, ids_take, kind_takes, names_some, state_takes, up_carries, up_command_takes, up_state_takes}
+use Rattle.sim_wire.specs.{Memory.{up_tag_takes, up_takes}, Reading.Gives, Refusals.{GivesMessage, RefusedFor}}
 use Rattle.std.proofs.Common.{Err, IfErr, IfOk, Ok, Result}
 
 -- ---- up

@@ -1,11 +1,10 @@
 -- Bytes of the form of a frame are the frame of a message.
-use Rattle.std.{proofs.lemmas.Bool.eqb-true, proofs.lemmas.List.nil_from_length, specs.Prelude.if◌then◌else◌}
-use Rattle.sim_wire.proofs.Common.{Attack, byte_at, Command, command_bytes, command_form, CommandFits, Delete, down_body, down_command_form, down_form}
-use Rattle.sim_wire.proofs.Common.{down_tag_form, DownFits, DownOf, false≢true, framed, ids_bytes, ids_form, IdsFit, IsDownFrame, IsUpFrame, kind_form}
-use Rattle.sim_wire.proofs.Common.{ltb-false, Place, read_and, Resign, state_form, state_limit, Stop, subst, sym, Train, u16_bytes, u32_bytes, up_body}
-use Rattle.sim_wire.proofs.Common.{up_command_form, up_form, up_tag_form, UpFits, UpOf, Walk, ◌∙◌}
-use Rattle.sim_wire.proofs.Common.{◌≡◌, ℕ, ◌+◌, ◌*◌, ◌≤◌, Bool, true, false, eqb, ltb, List, [], ◌∷◌, ◌++◌, length, flat_map, refl, ap, append_assoc, arith}
-use Rattle.sim_wire.proofs.Fronts.{AreBytes, ends, half, half_held, last_half, last_point, last_word, word, word_held, words}
+use Rattle.sim_wire.proofs.Common.{ap, append_assoc, arith, Attack, Bool, byte_at, Command, command_bytes, command_form, CommandFits, Delete, down_body}
+use Rattle.sim_wire.proofs.Common.{down_command_form, down_form, down_tag_form, DownFits, DownOf, eqb, false, false≢true, flat_map, framed, ids_bytes, ids_form}
+use Rattle.sim_wire.proofs.Common.{IdsFit, IsDownFrame, IsUpFrame, kind_form, length, List, ltb, ltb-false, Place, read_and, refl, Resign, state_form}
+use Rattle.sim_wire.proofs.Common.{state_limit, Stop, subst, sym, Train, true, u16_bytes, u32_bytes, up_body, up_command_form, up_form, up_tag_form, UpFits}
+use Rattle.sim_wire.proofs.{Common.{UpOf, Walk, ℕ, [], ◌*◌, ◌++◌, ◌+◌, ◌∙◌, ◌∷◌, ◌≡◌, ◌≤◌}, Fronts.{AreBytes, ends, half, half_held, last_half, last_point}}
+use Rattle.{sim_wire.proofs.Fronts.{last_word, word, word_held, words}, std.{proofs.lemmas.{Bool.eqb-true, List.nil_from_length}, specs.Prelude.if◌then◌else◌}}
 use Rattle.sim_plain.specs.declared.message.DownOf.TheVariants as down
 use Rattle.sim_plain.specs.declared.message.UpOf.TheVariants as up
 

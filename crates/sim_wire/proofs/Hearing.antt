@@ -1,7 +1,6 @@
 -- Bytes are heard as the message of which they are the frame.
-use Rattle.sim_wire.proofs.Common.{Bool, IsUpFrame, List, None, Option, Some, UpOf, false, refl, subst, sym, true, up_form, ℕ, ◌∙◌, ◌≡◌}
-use Rattle.sim_wire.proofs.{Formed.up_formed, Forms.up_has_form, Fronts.AreBytes, Standing.up_read}
-use Rattle.sim_wire.specs.Memory.{AreHeardAsFramed, message_in}
+use Rattle.sim_wire.proofs.Common.{Bool, false, IsUpFrame, List, None, Option, refl, Some, subst, sym, true, up_form, UpOf, ℕ, ◌∙◌, ◌≡◌}
+use Rattle.sim_wire.{proofs.{Formed.up_formed, Forms.up_has_form, Fronts.AreBytes, Standing.up_read}, specs.Memory.{AreHeardAsFramed, message_in}}
 
 pub is_heard : (bytes : List ℕ) (message : UpOf (List ℕ)) → IsUpFrame bytes message → message_in bytes ≡ Some message
 unfolding message_in

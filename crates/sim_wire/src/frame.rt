@@ -9,9 +9,8 @@ use crate::form::{is_down_form, is_up_form};
 use crate::length::{SmallDown, SmallUp};
 use crate::take::{take_down, take_up};
 use crate::{Down, Up, WireFault};
-use sim_base::OutOfMemory;
+use sim_base::{Global, OutOfMemory};
 use sim_bytes::Take;
-use std::alloc::Global;
 
 /// How many bytes a frame has at most.
 pub const MAX_FRAME: usize = 2_400_000;

@@ -1,7 +1,7 @@
 //! Files, words and what is printed.
 
 use crate::rig;
-use sim_base::OutOfMemory;
+use sim_base::{Global, OutOfMemory};
 use sim_census::Census;
 use sim_edge::{add_rig, run_with};
 use sim_ground::Ground;
@@ -10,7 +10,6 @@ use sim_store::{MemShelf, MemSink, Shelf, Sink};
 use sim_system::{Rig, System};
 use sim_top::Status;
 use sim_watch::Watch;
-use std::alloc::Global;
 
 // So many bytes a made file and a printed text have room for.
 const ROOM: usize = 400_000;

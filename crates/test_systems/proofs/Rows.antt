@@ -1,11 +1,9 @@
 -- A watcher and one that it sees on a ground of 16 by 16 cells: they are in range, and a move of the second fits.
-use Rattle.sim_base.specs.{Limits.IsClosed, Limits.IsLand, Limits.IsMask, declared.place.Point.Point, declared.place.Rect.Rect, declared.setup.Land.Land}
-use Rattle.sim_range.proofs.Turning.{increasing}
-use Rattle.sim_system.specs.Meanings.{built, counted, MayHear, Meaning}
-use Rattle.sim_system.specs.Notes.{AreInRange, IsInRange, kept_of, NoteFits}
-use Rattle.sim_system.specs.declared.{fact.Fact.Fact, kind.Kind.Kind, kind.Kind.TheVariants.Range, note.Note.TheVariants.Moved}
-use Rattle.std.proofs.Common.{[], arith, List, None, pos, refl, Some, subst, suc, sym, true, zero, ℕ, ℤ, ◌<◌, ◌∷◌, ◌≡◌}
-use Rattle.std.{proofs.lemmas.Int.ints, proofs.lemmas.List.Elements.All-cons, proofs.lemmas.List.Elements.All-nil, specs.Prelude.slice_index}
+use Rattle.{sim_base.specs.{declared.{place.{Point.Point, Rect.Rect}, setup.Land.Land}, Limits.{IsClosed, IsLand, IsMask}}, sim_range.proofs.Turning.increasing}
+use Rattle.sim_system.specs.declared.{fact.Fact.Fact, kind.Kind.{Kind, TheVariants.Range}, note.Note.TheVariants.Moved}
+use Rattle.sim_system.specs.{Meanings.{built, counted, MayHear, Meaning}, Notes.{AreInRange, IsInRange, kept_of, NoteFits}}
+use Rattle.std.proofs.Common.{arith, List, None, pos, refl, Some, subst, suc, sym, true, zero, ℕ, ℤ, [], ◌<◌, ◌∷◌, ◌≡◌}
+use Rattle.std.{proofs.lemmas.{Int.ints, List.Elements.{All-cons, All-nil}}, specs.Prelude.slice_index}
 
 abbrev pub land : Land
 land = record { width = 16; depth = 16; closed = []; masks = 0 ∷ 4 ∷ 0 ∷ [] }

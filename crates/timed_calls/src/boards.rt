@@ -1,8 +1,7 @@
 //! What changes of a board cost: 4,096 rows with obstructions are created and removed in one turn, over four real systems.
 
-ghost use Rattle.std.specs.Prelude.{OnOk};
-ghost use Rattle.sim_system.specs.{Meanings.HaveKinds, RigWords.systems_of};
-ghost use Rattle.{sim_base.specs.Limits.IsSetup, sim_board.specs.Boards.IsWhole, sim_board.specs.Boards.setup_in, sim_board.specs.Boards.systems};
+ghost use Rattle.{sim_base.specs.Limits.IsSetup, sim_board.specs.Boards.{IsWhole, setup_in, systems}};
+ghost use Rattle.{sim_system.specs.{Meanings.HaveKinds, RigWords.systems_of}, std.specs.Prelude.OnOk};
 
 use sim_base::{Change, Fixed, OutOfMemory, Point};
 use sim_board::Board;

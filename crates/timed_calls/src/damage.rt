@@ -6,10 +6,9 @@
 
 ghost use Rattle.sim_base.specs.Limits.{IsSetup};
 
-use sim_base::{OutOfMemory, Setup};
+use sim_base::{Global, OutOfMemory, Setup};
 use sim_codec::{StateFault, load, spell, stands};
 use sim_setup::setup_of;
-use std::alloc::Global;
 use std::{fs, io};
 
 const FRONT: usize = 400;

@@ -3,10 +3,9 @@
 
 ghost use Rattle.std.specs.Prelude.{◌≡◌};
 
-use sim_base::{Command, Items, OutOfMemory};
+use sim_base::{Command, Global, Items, OutOfMemory};
 use sim_server::Server;
 use sim_wire::Up;
-use std::alloc::Global;
 use std::io;
 use std::time::Instant;
 

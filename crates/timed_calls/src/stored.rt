@@ -5,13 +5,12 @@ ghost use Rattle.std.specs.Prelude.{IfOk, length, ◌≡◌};
 ghost use Rattle.sim_base.specs.Limits.{IsLand, IsSetup, IsTemplate, IsValid};
 
 use sim_base::{
-    Aim, Arms, Fixed, Harm, Items, Land, Motion, Name, OutOfMemory, Point, Resist, Row, Setup,
-    State, Template,
+    Aim, Arms, Fixed, Global, Harm, Items, Land, Motion, Name, OutOfMemory, Point, Resist, Row,
+    Setup, State, Template,
 };
 use sim_codec::{digest, is_valid, load, spell};
 use sim_diff::difference;
 use sim_report::push_show;
-use std::alloc::Global;
 use std::io;
 use std::time::Instant;
 

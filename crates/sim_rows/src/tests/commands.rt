@@ -1,9 +1,8 @@
 //! The commands that are run, with the files that they read.
 
-use sim_base::OutOfMemory;
+use sim_base::{Global, OutOfMemory};
 use sim_store::{MemShelf, MemSink};
 use sim_top::Status;
-use std::alloc::Global;
 use test_runs::{print, run_words, shelf_of};
 
 // A walker that is told to walk.

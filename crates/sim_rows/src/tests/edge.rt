@@ -1,11 +1,10 @@
 //! The edge, over a system in memory that interrupts, cuts short and refuses, and over the real one.
 
 use crate::tests::one_file::{Calls, Handle, OneFile, PLAIN};
-use sim_base::OutOfMemory;
+use sim_base::{Global, OutOfMemory};
 use sim_edge::{FileShelf, OutSink, SystemFiles, Writable};
 use sim_store::{StoreFault, read_file, write_file, write_out};
 use sim_top::Status;
-use std::alloc::Global;
 use std::io::ErrorKind;
 use std::test::Fail;
 use std::{fs, io};

@@ -2,9 +2,8 @@
 
 ghost use Rattle.std.specs.Prelude.{◌≤◌, IfOk};
 
-use sim_base::OutOfMemory;
+use sim_base::{Global, OutOfMemory};
 use sim_edge::FileSystem;
-use std::alloc::Global;
 use std::io;
 use std::io::{ErrorKind, Read, Write};
 

@@ -3,9 +3,8 @@
 use crate::tests::commands::{
     COMMANDS, Command, are_inputs_kept, files, is_saved_in_part, run_over, stored,
 };
-use sim_base::OutOfMemory;
+use sim_base::{Global, OutOfMemory};
 use sim_top::Status;
-use std::alloc::Global;
 use std::test::Fail;
 
 /// What has come of a run: its status; whether anything was printed; whether the files are as they have to be; and whether

@@ -1,10 +1,9 @@
 //! A file without room, and one that is too long.
 
 use crate::tests::commands::has_file;
-use sim_base::OutOfMemory;
+use sim_base::{Global, OutOfMemory};
 use sim_store::{MemShelf, MemSink};
 use sim_top::Status;
-use std::alloc::Global;
 use std::test::Fail;
 use test_runs::games::POSTS;
 use test_runs::run_words;

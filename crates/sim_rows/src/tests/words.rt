@@ -1,8 +1,7 @@
 //! What each command prints, and how it ends.
 
-use sim_base::OutOfMemory;
+use sim_base::{Global, OutOfMemory};
 use sim_top::Status;
-use std::alloc::Global;
 use std::test::Fail;
 use test_runs::games::{POSTS, STEP};
 use test_runs::{Case, Printed, first_unmet, print, shelf_of};

@@ -5,10 +5,9 @@ ghost use Rattle.{sim_store.specs.MemSink.faults_of, std.specs.Prelude.None};
 use crate::tests::commands::{
     COMMANDS, Command, are_inputs_kept, files, is_saved, run_over, stored,
 };
-use sim_base::OutOfMemory;
+use sim_base::{Global, OutOfMemory};
 use sim_store::{Failed, MemShelf, MemSink, Sink};
 use sim_top::Status;
-use std::alloc::Global;
 use std::test::Fail;
 use test_runs::{run_words, shelf_of};
 

@@ -1,17 +1,15 @@
 //! Two stored states of a match, which are compared.
 
-ghost use Rattle.std.specs.Prelude.{◌≡◌, IfOk};
-ghost use Rattle.sim_top.specs.{Commands.IsAnswerTo, Commands.shelved, Common.difference_of, Common.IsValid, Making.outcome_made, Outcome.compare_by};
-ghost use Rattle.sim_top.specs.Words.{to_compare};
+ghost use Rattle.sim_top.specs.{Commands.{IsAnswerTo, shelved}, Common.{difference_of, IsValid}, Making.outcome_made, Outcome.compare_by, Words.to_compare};
+ghost use Rattle.std.specs.Prelude.{IfOk, ◌≡◌};
 
 use super::Answer;
 use crate::inputs::{read_match, read_state};
 use crate::{Status, Stop};
-use sim_base::{OutOfMemory, Setup, State};
+use sim_base::{Global, OutOfMemory, Setup, State};
 use sim_diff::difference;
 use sim_report::push_place;
 use sim_store::Shelf;
-use std::alloc::Global;
 
 /// Compares two states of a match that are stored in files. The second is read only where the first is one.
 pub fn compare<'w, S: Shelf>(

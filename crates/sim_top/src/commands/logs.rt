@@ -1,21 +1,19 @@
 //! The log of a match, which is stored in a file; and one that is checked, by playing the match as it says.
 
+ghost use Rattle.{sim_replay.specs.Logs.IsOfTurns, sim_top.specs.{Commands.{IsAnswerTo, shelved}, Common.{logged_line, text_of_log}, Making.IsMadeOf}};
+ghost use Rattle.sim_top.specs.{Making.status_made, Outcome.{check_by, logged_as}, Returning.RigsCameBack, Stops.AreEight, Words.{to_check, to_log}};
 ghost use Rattle.std.specs.Prelude.{IfOk, length, Some, string_bytes, ◌<◌, ◌^◌, ◌≡◌};
-ghost use Rattle.sim_replay.specs.Logs.{IsOfTurns};
-ghost use Rattle.sim_top.specs.{Commands.IsAnswerTo, Commands.shelved, Common.logged_line, Common.text_of_log, Making.IsMadeOf, Making.status_made};
-ghost use Rattle.sim_top.specs.{Outcome.check_by, Outcome.logged_as, Returning.RigsCameBack, Stops.AreEight, Words.to_check, Words.to_log};
 
 use super::{Answer, Equipment, Saved};
 use crate::inputs::{read_log, read_match};
 use crate::rigs::{put_first, take_first};
 use crate::{Status, Stop};
-use sim_base::{OutOfMemory, Setup};
+use sim_base::{Global, OutOfMemory, Setup};
 use sim_play::{digests_after, match_log};
 use sim_replay::{Digests, Log, first_apart, push_log};
 use sim_report::{push_agree, push_apart, push_logged};
 use sim_store::Shelf;
 use sim_system::{Rig, System};
-use std::alloc::Global;
 
 impl Equipment<'_> {
     /// Stores the log of the match of a file.

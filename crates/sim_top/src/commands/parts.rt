@@ -6,10 +6,9 @@ ghost use Rattle.sim_top.specs.{Commands.IsAnswerTo, Commands.shelved, Common.pa
 use super::{Answer, shown};
 use crate::inputs::read_match;
 use crate::stop::Stop;
-use sim_base::{OutOfMemory, Setup};
+use sim_base::{Global, OutOfMemory, Setup};
 use sim_report::push_parts;
 use sim_store::Shelf;
-use std::alloc::Global;
 
 /// Tells the parts of the templates of the match of a file.
 pub fn parts<'w, S: Shelf>(

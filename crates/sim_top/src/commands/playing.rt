@@ -1,8 +1,7 @@
 //! A match that is played from its start, or from a stored state on.
 
+ghost use Rattle.sim_top.specs.{Commands.{IsAnswerTo, shelved}, Making.status_made, Returning.RigsCameBack, Stops.AreEight, Words.{to_play, to_resume}};
 ghost use Rattle.std.specs.Prelude.{Some};
-ghost use Rattle.sim_top.specs.Words.{to_resume};
-ghost use Rattle.sim_top.specs.{Commands.IsAnswerTo, Commands.shelved, Making.status_made, Returning.RigsCameBack, Stops.AreEight, Words.to_play};
 
 use super::{Answer, Equipment, shown};
 use crate::inputs::{read_match, read_state};

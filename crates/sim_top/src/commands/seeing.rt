@@ -1,9 +1,8 @@
 //! What the players of a match see at a turn, and have explored: from its first state on, or from a stored state on with the
 //! explored cells of a file.
 
-ghost use Rattle.std.specs.Prelude.{Some, string_bytes};
-ghost use Rattle.sim_top.specs.{Commands.IsAnswerTo, Commands.shelved, Making.IsMadeOf, Making.status_made, Outcome.seen_with, Returning.RigsCameBack};
-ghost use Rattle.sim_top.specs.{Stops.AreEight, Words.to_resight, Words.to_sight};
+ghost use Rattle.sim_top.specs.{Commands.{IsAnswerTo, shelved}, Making.{IsMadeOf, status_made}, Outcome.seen_with, Returning.RigsCameBack, Stops.AreEight};
+ghost use Rattle.{sim_top.specs.Words.{to_resight, to_sight}, std.specs.Prelude.{Some, string_bytes}};
 
 use super::storing::reached;
 use super::{Answer, Equipment, Saved, shown};

@@ -6,10 +6,9 @@ ghost use Rattle.sim_top.specs.{Commands.IsAnswerTo, Commands.shelved, Common.Is
 use super::{Answer, shown};
 use crate::inputs::{read_match, read_state};
 use crate::stop::Stop;
-use sim_base::{OutOfMemory, Setup, State};
+use sim_base::{Global, OutOfMemory, Setup, State};
 use sim_report::push_show;
 use sim_store::Shelf;
-use std::alloc::Global;
 
 /// Shows the state of a match that is stored in a file.
 pub fn show<'w, S: Shelf>(

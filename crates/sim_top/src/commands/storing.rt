@@ -8,13 +8,12 @@ use super::{Answer, Equipment, Saved};
 use crate::inputs::read_match;
 use crate::rigs::{put_first, take_first};
 use crate::{Status, Stop};
-use sim_base::{OutOfMemory, Setup, State};
+use sim_base::{Global, OutOfMemory, Setup, State};
 use sim_codec::{digest, spell};
 use sim_play::state_at;
 use sim_report::push_saved;
 use sim_store::Shelf;
 use sim_system::{Rig, System};
-use std::alloc::Global;
 
 impl Equipment<'_> {
     /// Stores the state of a turn of the match of a file.
@@ -67,12 +66,7 @@ fn kept_state<'w>(
     let state = state?;
     let bytes = spell(alloc, setup, &state)?;
     let mut text = String::new(alloc);
-    push_saved(
-        state.turn,
-        bytes.len(),
-        &digest(setup, &state),
-        &mut text,
-    )?;
+    push_saved(state.turn, bytes.len(), &digest(setup, &state), &mut text)?;
     Ok(Answer {
         status: Status::Done,
         text,

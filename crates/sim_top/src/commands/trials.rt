@@ -8,10 +8,9 @@ use super::{Answer, Equipment, shown};
 use crate::inputs::trial_match;
 use crate::rigs::{put_first, take_first};
 use crate::stop::Stop;
-use sim_base::{OutOfMemory, Setup, State};
+use sim_base::{Global, OutOfMemory, Setup, State};
 use sim_play::{push_trial, state_at};
 use sim_system::{Rig, System};
-use std::alloc::Global;
 
 impl Equipment<'_> {
     /// Plays the match of a trial, which has a seed, so many soldiers and so many turns.

@@ -1,14 +1,12 @@
 //! What an observer sees who has kept a list of states, and who joins later with the explored cells of a file. The numbers were
 //! worked out by hand.
 
-ghost use Rattle.std.specs.Prelude.{IfOk};
-ghost use Rattle.sim_base.specs.Limits.{IsSetup, IsValid};
+ghost use Rattle.{sim_base.specs.Limits.{IsSetup, IsValid}, std.specs.Prelude.IfOk};
 
-use sim_base::{Aim, Cell, Fixed, Items, OutOfMemory, Row, Setup, State, centre_of};
+use sim_base::{Aim, Cell, Fixed, Global, Items, OutOfMemory, Row, Setup, State, centre_of};
 use sim_codec::is_valid;
 use sim_setup::setup_of;
 use sim_vision::{Sight, push_sight};
-use std::alloc::Global;
 use std::test::Fail;
 
 // A ground of 8 by 8 cells with two players, whose bows see one metre far.

@@ -1,8 +1,7 @@
 //! A shelf and a sink that move at most two bytes at a call, so that a whole file or text takes many. They tell nothing,
 //! as the real ones do. Their calls, and the faults among them, are those of the shelf and the sink in memory below.
 
-ghost use Rattle.std.specs.Prelude.{[], None};
-ghost use Rattle.sim_store.specs.{MemShelf.counts_on, MemShelf.is_making_on, MemShelf.is_open_on, MemSink.faults_of};
+ghost use Rattle.{sim_store.specs.{MemShelf.{counts_on, is_making_on, is_open_on}, MemSink.faults_of}, std.specs.Prelude.{None, []}};
 
 use sim_store::{Failed, MemShelf, MemSink, Shelf, ShelfFault, Sink};
 

@@ -3,14 +3,15 @@
 ghost use Rattle.{sim_base.specs.Limits.IsSetup, sim_base.specs.Rows.id_of, sim_bytes.specs.Rows.HasShortWay};
 ghost use Rattle.std.specs.{List.Sorted.IsStrictlyIncreasing, Prelude.map, Prelude.IfOk, Prelude.All};
 
-use sim_base::{Aim, Fixed, Items, MAX_STATE, Motion, OutOfMemory, Point, Row, Setup, State};
+use sim_base::{
+    Aim, Fixed, Global, Items, MAX_STATE, Motion, OutOfMemory, Point, Row, Setup, State,
+};
 use sim_codec::{
     Part, StateFault, a_spelling_is_taken, bits_of, digest, is_valid, load, mark, quick, spell,
     stands,
 };
 use sim_diff::difference;
 use sim_setup::setup_of;
-use std::alloc::Global;
 use std::test::Fail;
 
 // Ground with two players, and templates for a post, a guard and a walker.

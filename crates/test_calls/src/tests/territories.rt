@@ -4,11 +4,10 @@
 ghost use Rattle.std.specs.Prelude.{◌≡◌, ◌<◌, length, IfOk, OnOk};
 ghost use Rattle.sim_base.specs.Limits.{IsSetup};
 
-use sim_base::{OutOfMemory, Setup};
+use sim_base::{Global, OutOfMemory, Setup};
 use sim_codec::load;
 use sim_setup::setup_of;
 use sim_territory::Realm;
-use std::alloc::Global;
 use std::test::Fail;
 
 // A strip of 32 cells with two players, and templates for a hall and a hut.

@@ -4,11 +4,10 @@ ghost use Rattle.{sim_client.specs.StageWords.AreCleared, sim_system.specs.Meani
 ghost use Rattle.std.specs.Prelude.{◌≡◌, length, All};
 
 use crate::tests::runs::{ended, print_on};
-use sim_base::OutOfMemory;
+use sim_base::{Global, OutOfMemory};
 use sim_range::Range;
 use sim_system::{Rig, System};
 use sim_top::Status;
-use std::alloc::Global;
 use test_runs::Printed;
 
 // Soldiers of two players who kill each other in two turns. One player builds a hut, and a third one resigns.

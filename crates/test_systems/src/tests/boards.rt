@@ -1,11 +1,10 @@
 //! Worked rows, each over a board that is started from a match file.
 
-ghost use Rattle.std.specs.Prelude.{IfOk};
-ghost use Rattle.{sim_base.specs.Limits.IsSetup, sim_base.specs.Limits.IsValid, sim_board.specs.Boards.IsWhole, sim_board.specs.Boards.setup_in};
-ghost use Rattle.{sim_board.specs.Boards.systems, sim_system.specs.Meanings.HaveKinds, sim_system.specs.RigWords.systems_of};
+ghost use Rattle.sim_base.specs.Limits.{IsSetup, IsValid};
+ghost use Rattle.{sim_board.specs.Boards.{IsWhole, setup_in, systems}, sim_system.specs.{Meanings.HaveKinds, RigWords.systems_of}, std.specs.Prelude.IfOk};
 
 use crate::tests::checks::{answer, can_leave, change};
-use sim_base::{Cell, Change, Fixed, Items, OutOfMemory, Point, Setup, State};
+use sim_base::{Cell, Change, Fixed, Global, Items, OutOfMemory, Point, Setup, State};
 use sim_board::{Board, adopt_and_apply, start_and_apply};
 use sim_census::Census;
 use sim_codec::is_valid;
@@ -14,7 +13,6 @@ use sim_range::Range;
 use sim_setup::setup_of;
 use sim_system::{Answer, Ask, Rig, System};
 use sim_watch::Watch;
-use std::alloc::Global;
 use std::test::Fail;
 use test_runs::rig;
 

@@ -1,14 +1,13 @@
 //! A handler that plans by a function of the test's own, with the same fact: the match comes to the same states, and where the
 //! function gives up, the run ends with that. A table that calls the usual planners would go on.
 
-ghost use Rattle.std.specs.List.{flat_map};
-ghost use Rattle.std.specs.Prelude.{[], All, IfOk, if◌then◌else◌, length, ◌==◌, ◌∷◌, ◌≡◌};
-ghost use Rattle.{sim_base.specs.declared.change.Change.TheVariants.Owner, sim_base.specs.declared.state.Row.Row as AnyRow, sim_stock.specs.PaidTurns.IsAsked};
-ghost use Rattle.{sim_client.specs.StageWords.AreCleared, sim_stock.specs.PaidTurns.deed as deed_of, sim_system.specs.RigWords.systems_of};
-ghost use Rattle.{sim_orders.specs.Orders.Fulfils, sim_orders.specs.Orders.IsGiven, sim_orders.specs.Orders.kind_of, sim_system.specs.Meanings.HaveKinds};
+ghost use Rattle.{sim_base.specs.declared.{change.Change.TheVariants.Owner, state.Row.Row as AnyRow}, sim_client.specs.StageWords.AreCleared};
+ghost use Rattle.{sim_orders.specs.Orders.{Fulfils, IsGiven, kind_of}, sim_stock.specs.PaidTurns.{deed as deed_of, IsAsked}};
+ghost use Rattle.sim_system.specs.{Meanings.HaveKinds, RigWords.systems_of};
+ghost use Rattle.std.specs.{List.flat_map, Prelude.{All, IfOk, if◌then◌else◌, length, [], ◌==◌, ◌∷◌, ◌≡◌}};
 
 use crate::tests::runs::{ended, play, printed};
-use sim_base::{Change, Changes, Items, OutOfMemory, Row};
+use sim_base::{Change, Changes, Global, Items, OutOfMemory, Row};
 use sim_census::Census;
 use sim_ground::Ground;
 use sim_orders::{Handler, OrderTable, Planner, Task};
@@ -18,7 +17,6 @@ use sim_store::{MemShelf, MemSink};
 use sim_system::{Rig, System};
 use sim_top::{Status, run};
 use sim_watch::Watch;
-use std::alloc::Global;
 use std::test::Fail;
 use test_runs::games::HUTS_LEFT;
 use test_runs::{Printed, add_rig, planned, rig, shelf_of, words_of};

@@ -4,9 +4,8 @@
 ghost use Rattle.std.specs.Prelude.{◌<◌};
 
 use crate::tests::lending::{DEPTH, IDS, WIDTH, mixed};
-use sim_base::{Cell, Fixed, Land, OutOfMemory, Point, Rect};
+use sim_base::{Cell, Fixed, Global, Land, OutOfMemory, Point, Rect};
 use sim_system::{Ask, Fact, Kind, Note};
-use std::alloc::Global;
 
 // The cells of the battle's ground, in a row of it, and in all.
 const ROW: usize = 24;

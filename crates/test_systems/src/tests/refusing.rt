@@ -1,11 +1,10 @@
 //! Systems that find no memory for one sort of note or ask. A run that keeps its systems beside what it plays, and does not
 //! tell or ask them, would not notice.
 
-ghost use Rattle.{sim_client.specs.StageWords.AreCleared, sim_system.specs.Meanings.HaveKinds, sim_system.specs.Meanings.NeedsNoMemory};
-ghost use Rattle.std.specs.Prelude.{◌≡◌, IsTrue, length, All};
-ghost use Rattle.sim_system.specs.RigWords.{systems_of};
+ghost use Rattle.{sim_client.specs.StageWords.AreCleared, sim_system.specs.{Meanings.{HaveKinds, NeedsNoMemory}, RigWords.systems_of}};
+ghost use Rattle.std.specs.Prelude.{All, IsTrue, length, ◌≡◌};
 
-use sim_base::{Land, OutOfMemory};
+use sim_base::{Global, Land, OutOfMemory};
 use sim_census::Census;
 use sim_ground::Ground;
 use sim_range::Range;
@@ -13,7 +12,6 @@ use sim_store::{MemShelf, MemSink};
 use sim_system::{Answer, Ask, Fact, Kind, Note, Rig, System};
 use sim_top::Status;
 use sim_watch::Watch;
-use std::alloc::Global;
 use std::test::Fail;
 use test_runs::games::{GUARDS, HUTS_LEFT, STEP, TRAINING};
 use test_runs::{add_rig, rig_of, run_with, words_of};

@@ -4,11 +4,10 @@
 ghost use Rattle.{sim_client.specs.StageWords.AreCleared, sim_system.specs.Meanings.HaveKinds, sim_system.specs.RigWords.systems_of};
 ghost use Rattle.std.specs.Prelude.{◌≡◌, length, All};
 
-use sim_base::OutOfMemory;
+use sim_base::{Global, OutOfMemory};
 use sim_store::MemSink;
 use sim_system::{Rig, System};
 use sim_top::Status;
-use std::alloc::Global;
 use test_runs::{Printed, print, run_with, shelf_of, words_of};
 
 /// Runs the words over these files, on these rigs.

@@ -4,14 +4,13 @@
 ghost use Rattle.std.specs.Prelude.{◌≡◌, IfOk};
 
 use crate::tests::runs::{ended, print_on};
-use sim_base::{Land, OutOfMemory};
+use sim_base::{Global, Land, OutOfMemory};
 use sim_census::Census;
 use sim_ground::{Ground, Rooms};
 use sim_range::Range;
 use sim_system::{Answer, Ask, Fact, Kind, Note, Rig, System};
 use sim_top::Status;
 use sim_watch::Watch;
-use std::alloc::Global;
 use std::rc::Rc;
 use std::test::Fail;
 use test_runs::{Printed, add_rig, rig_of};

@@ -6,12 +6,11 @@ ghost use Rattle.std.specs.Prelude.{◌≡◌, IfOk};
 
 use crate::tests::battle::{battle, is_battle, range};
 use crate::tests::lending::Lends;
-use sim_base::{Land, OutOfMemory};
+use sim_base::{Global, Land, OutOfMemory};
 use sim_census::Census;
 use sim_ground::Ground;
 use sim_system::{Answer, Ask, Fact, Kind, Note, Rig, System};
 use sim_watch::Watch;
-use std::alloc::Global;
 use std::cell::Cell;
 use std::rc::Rc;
 use std::test::Fail;

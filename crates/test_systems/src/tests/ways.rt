@@ -7,12 +7,11 @@ ghost use Rattle.sim_base.specs.Places.{is_inside};
 mod plain;
 
 use plain::{Plain, middle};
-use sim_base::{Cell, Fixed, OutOfMemory, Point};
+use sim_base::{Cell, Fixed, Global, OutOfMemory, Point};
 use sim_grid::Grid;
 use sim_path::{Searcher, way, way_with};
 use sim_search::{Labels, labels_of};
 use sim_system::Way;
-use std::alloc::Global;
 use std::test::Fail;
 
 // A way on a ground. Its first row is that of the least z; a closed cell is '#'. Points are in quarters of a metre.

@@ -3,10 +3,9 @@
 
 use crate::ways::pairs::{Points, is_on};
 use crate::ways::site::{GROUNDS, Site};
-use sim_base::{OutOfMemory, Point};
+use sim_base::{Global, OutOfMemory, Point};
 use sim_path::{Searcher, way};
 use sim_system::Way;
-use std::alloc::Global;
 
 // How many pairs of points are tried on each ground.
 const PAIRS: usize = 40;

@@ -3,11 +3,10 @@
 ghost use Rattle.std.specs.Prelude.{◌≡◌, ◌≤◌, IsTrue};
 ghost use Rattle.sim_base.specs.Places.{is_inside};
 
-use sim_base::{Cell, OutOfMemory, Point};
+use sim_base::{Cell, Global, OutOfMemory, Point};
 use sim_grid::Grid;
 use sim_path::{Labels, Searcher, labels_of, way_with};
 use sim_system::Way;
-use std::alloc::Global;
 use std::marker::Model;
 
 /// Which cells of a ground are closed.

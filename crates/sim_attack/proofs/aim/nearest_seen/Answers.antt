@@ -1,10 +1,9 @@
 -- What is taken from a find is what the row finds, and what the row finds is kept as what its owner finds from there.
 use Rattle.sim_attack.proofs.aim.nearest_seen.Goals as goal
 use Rattle.sim_attack.proofs.Sharing.{filled_found, found_at, seen_is_nearest, shared_is_nearest}
-use Rattle.sim_attack.specs.{Finds.filled, Finds.nearest_from, Finds.nearest_of, Finds.place_for, declared.finds.Find.Find}
-use Rattle.std.proofs.Common.{ap, get_or, None, rules, Some, sym, ◌∙◌, ◌≡◌}
-use Rattle.std.{proofs.lemmas.List.Elements.All-same, proofs.lemmas.List.Elements.All-set, specs.Prelude.IfSome, specs.Prelude.Option}
-use Rattle.{sim_base.specs.Commands.seen, sim_base.specs.Rows.row_of, sim_system.specs.Meanings.seen_from, sim_system.specs.Meanings.seen_with}
+use Rattle.{sim_attack.specs.{declared.finds.Find.Find, Finds.{filled, nearest_from, nearest_of, place_for}}, sim_base.specs.{Commands.seen, Rows.row_of}}
+use Rattle.sim_system.specs.Meanings.{seen_from, seen_with}
+use Rattle.std.{proofs.{Common.{ap, get_or, None, rules, Some, sym, ◌∙◌, ◌≡◌}, lemmas.List.Elements.{All-same, All-set}}, specs.Prelude.{IfSome, Option}}
 
 pub returns-in-Some-clause-target : goal.returns-in-Some-clause-target
 returns-in-Some-clause-target g c =

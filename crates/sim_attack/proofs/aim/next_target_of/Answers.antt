@@ -1,7 +1,6 @@
 -- The nearest that the row sees is its target where it may take it; else it has none.
-use Rattle.std.proofs.Common.{sym, true, ◌∙◌, ◌≡◌}
-use Rattle.{sim_attack.proofs.Sharing.seen_is_nearest, sim_attack.proofs.Sharing.target_from, sim_attack.specs.Finds.nearest_of, sim_base.specs.Commands.seen}
-use Rattle.{sim_base.specs.Turn.may_take, sim_plans.specs.Plans.next_target, std.proofs.Common.ap, std.proofs.Common.false, std.proofs.Common.rules}
+use Rattle.sim_attack.{proofs.Sharing.{seen_is_nearest, target_from}, specs.Finds.nearest_of}
+use Rattle.{sim_base.specs.{Commands.seen, Turn.may_take}, sim_plans.specs.Plans.next_target, std.proofs.Common.{ap, false, rules, sym, true, ◌∙◌, ◌≡◌}}
 
 pub returns-then-may_take-clause-target : Rattle.sim_attack.proofs.aim.next_target_of.Goals.returns-then-may_take-clause-target
 returns-then-may_take-clause-target g c =

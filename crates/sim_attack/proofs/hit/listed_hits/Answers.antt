@@ -1,9 +1,8 @@
 use Rattle.sim_attack.proofs.hit.listed_hits.Goals as goal
 use Rattle.sim_attack.proofs.Fighting.{behind_word, far_all, far_more, hurt_at, listed_more}
-use Rattle.sim_base.specs.{Turn.hitting, declared.change.Change.Change, declared.change.Change.TheVariants.Word, declared.state.Row.Row}
-use Rattle.sim_plans.specs.Plans.{fight_changes_of, hurt_changes_by, hurt_changes_of}
-use Rattle.std.proofs.Common.{[], ap, arith, flat_map, get_or, length, List, refl, rules, take, ℕ, ◌*◌, ◌++◌, ◌+◌, ◌<◌, ◌^◌, ◌∙◌, ◌∷◌, ◌≡◌, ◌≤◌}
-use Rattle.std.proofs.lemmas.List.{Elements.All-weaker, take_all}
+use Rattle.sim_base.specs.{declared.{change.Change.{Change, TheVariants.Word}, state.Row.Row}, Turn.hitting}
+use Rattle.{sim_plans.specs.Plans.{fight_changes_of, hurt_changes_by, hurt_changes_of}, std.proofs.Common.{ap, arith, flat_map, get_or, length, List, refl}}
+use Rattle.std.proofs.{Common.{rules, take, ℕ, [], ◌*◌, ◌++◌, ◌+◌, ◌<◌, ◌^◌, ◌∙◌, ◌∷◌, ◌≡◌, ◌≤◌}, lemmas.List.{Elements.All-weaker, take_all}}
 
 pub loop-row-preserved : goal.loop-row-preserved
 loop-row-preserved c =

@@ -1,6 +1,5 @@
-use Rattle.std.proofs.Common.{All, flat_map, length, take, ◌*◌, ◌++◌, ◌<◌, ◌^◌, ◌∷◌, ◌≡◌, ◌≤◌}
-use Rattle.{sim_attack.proofs.Fighting.IsFar, sim_attack.specs.Fights.AreTaken, sim_base.specs.Turn.hitting}
-use Rattle.{sim_base.specs.declared.change.Change.TheVariants.Word, sim_plans.specs.Plans.fight_changes_of, sim_plans.specs.Plans.hurt_changes_of}
+use Rattle.{sim_attack.{proofs.Fighting.IsFar, specs.Fights.AreTaken}, sim_base.specs.{declared.change.Change.TheVariants.Word, Turn.hitting}}
+use Rattle.{sim_plans.specs.Plans.{fight_changes_of, hurt_changes_of}, std.proofs.Common.{All, flat_map, length, take, ◌*◌, ◌++◌, ◌<◌, ◌^◌, ◌∷◌, ◌≡◌, ◌≤◌}}
 
 abbrev pub invariant-loop-row : Rattle.sim_attack.proofs.hit.listed_hits.Given.invariant-loop-row
 invariant-loop-row l =

@@ -1,6 +1,5 @@
 -- The old text still stands before the metres and the point, whatever part of the five digits was appended to them.
-use Rattle.std.{proofs.Common.◌≡◌, proofs.Common.length, proofs.Common.take, proofs.Common.rules, specs.Prelude.string_bytes}
-use Rattle.sim_base.proofs.AppendedTexts.{take-appended_more}
+use Rattle.{sim_base.proofs.AppendedTexts.take-appended_more, std.{proofs.Common.{length, rules, take, ◌≡◌}, specs.Prelude.string_bytes}}
 
 pub returns-in_err-push_five-clause-err : Rattle.sim_base.proofs.print.push_magnitude.Goals.returns-in_err-push_five-clause-err
 returns-in_err-push_five-clause-err c =

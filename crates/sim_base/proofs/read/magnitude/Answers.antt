@@ -1,5 +1,4 @@
-use Rattle.sim_base.proofs.PrintedNumbers.{magnitude_of-refused, magnitude_of-whole}
-use Rattle.std.proofs.{Common.arith, lemmas.Grind.common_steps}
+use Rattle.{sim_base.proofs.PrintedNumbers.{magnitude_of-refused, magnitude_of-whole}, std.proofs.{Common.arith, lemmas.Grind.common_steps}}
 
 pub returns-in_err-digits-in-Some-2-clause-value : Rattle.sim_base.proofs.read.magnitude.Goals.returns-in_err-digits-in-Some-2-clause-value
 returns-in_err-digits-in-Some-2-clause-value c = grind (arith, common_steps, magnitude_of-refused c.args.text.now c.in-Some.at)

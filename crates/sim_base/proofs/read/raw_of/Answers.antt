@@ -1,7 +1,6 @@
 use Rattle.sim_base.proofs.read.raw_of.Goals as goal
 use Rattle.sim_base.proofs.PrintedNumbers.{digits_value_after-append, few_digits, raw_small, sixteen_digits}
-use Rattle.std.proofs.Common.{arith, length, ◌*◌, ◌++◌, ◌/◌, ◌<◌, ◌^◌, ◌∙◌, ◌≡◌}
-use Rattle.std.specs.Str.Parse.{digits_value, digits_value_after}
+use Rattle.std.{proofs.Common.{arith, length, ◌*◌, ◌++◌, ◌/◌, ◌<◌, ◌^◌, ◌∙◌, ◌≡◌}, specs.Str.Parse.{digits_value, digits_value_after}}
 
 pub value_after-value-requires-clause-room : goal.value_after-value-requires-clause-room
 value_after-value-requires-clause-room c =

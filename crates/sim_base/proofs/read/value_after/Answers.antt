@@ -1,6 +1,5 @@
 use Rattle.sim_base.proofs.read.value_after.Goals as goal
-use Rattle.sim_base.proofs.PrintedNumbers.{digit_more_fits, digit_more_small, next_digit}
-use Rattle.std.proofs.Common.{arith, length}
+use Rattle.{sim_base.proofs.PrintedNumbers.{digit_more_fits, digit_more_small, next_digit}, std.proofs.Common.{arith, length}}
 
 pub overflow_mul-value : goal.overflow_mul-value
 overflow_mul-value c = omega (

@@ -1,5 +1,4 @@
-use Rattle.std.proofs.Common.{◌≡◌, ◌+◌, ◌*◌, ◌^◌, ◌<◌, take}
-use Rattle.std.specs.Str.Parse.{digits_value_after}
+use Rattle.std.{proofs.Common.{take, ◌*◌, ◌+◌, ◌<◌, ◌^◌, ◌≡◌}, specs.Str.Parse.digits_value_after}
 
 abbrev pub invariant-loop-c : Rattle.sim_base.proofs.read.value_after.Given.invariant-loop-c
 invariant-loop-c l = record {

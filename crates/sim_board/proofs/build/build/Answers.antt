@@ -1,6 +1,5 @@
 -- What is told of a state is in range.
-use Rattle.sim_board.proofs.Common.{ap, AreInRange, Meaning, state_in_range, subst, sym, ◌∙◌}
-use Rattle.sim_board.proofs.Counting.{built_once, not_built}
+use Rattle.sim_board.proofs.{Common.{ap, AreInRange, Meaning, state_in_range, subst, sym, ◌∙◌}, Counting.{built_once, not_built}}
 use Rattle.sim_board.proofs.build.build.Goals as goal
 
 pub rebuild-requires-clause-facts : goal.rebuild-requires-clause-facts

@@ -1,6 +1,5 @@
 -- One more is released.
-use Rattle.sim_board.proofs.Common.{ℕ, map, get_or, ap, arith, id_of, row_released, sym, ◌∙◌}
-use Rattle.sim_board.proofs.Letting.{ids_stay, released_next}
+use Rattle.sim_board.proofs.{Common.{ap, arith, get_or, id_of, map, row_released, sym, ℕ, ◌∙◌}, Letting.{ids_stay, released_next}}
 
 pub loop-id-preserved : Rattle.sim_board.proofs.edit.release_rows.Goals.loop-id-preserved
 loop-id-preserved c =

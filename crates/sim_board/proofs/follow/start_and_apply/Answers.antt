@@ -1,6 +1,5 @@
 -- No system is built by the changes.
-use Rattle.sim_board.proofs.{Common.sym, Common.◌∙◌, Counting.most_kept, Counting.once_kept}
-use Rattle.std.proofs.lemmas.Result.{err_from_is_err_and}
+use Rattle.{sim_board.proofs.{Common.{sym, ◌∙◌}, Counting.{most_kept, once_kept}}, std.proofs.lemmas.Result.err_from_is_err_and}
 
 pub returns-in_err-start : Rattle.sim_board.proofs.follow.start_and_apply.Goals.returns-in_err-start
 returns-in_err-start g c =

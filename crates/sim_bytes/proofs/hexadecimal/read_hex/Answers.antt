@@ -1,6 +1,5 @@
 -- The empty text has no bytes.
-use Rattle.std.proofs.{Common.length, Common.Ok, Common.ap, Common.sym, Common.◌∙◌, lemmas.Bool.eqb-true, lemmas.List.nil_from_length}
-use Rattle.hex.specs.Hex.{decode_of, decode_pairs}
+use Rattle.{hex.specs.Hex.{decode_of, decode_pairs}, std.proofs.{Common.{ap, length, Ok, sym, ◌∙◌}, lemmas.{Bool.eqb-true, List.nil_from_length}}}
 
 pub returns-then-is_empty-clause-value : Rattle.sim_bytes.proofs.hexadecimal.read_hex.Goals.returns-then-is_empty-clause-value
 unfolding decode_pairs

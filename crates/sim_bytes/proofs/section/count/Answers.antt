@@ -1,6 +1,5 @@
 -- A row counts where it has the part.
-use Rattle.std.proofs.Common.{arith, ◌∙◌}
-use Rattle.sim_bytes.proofs.{Steps.count_none, Steps.count_some, section.count.Goals.else-is_in, section.count.Goals.then-is_in}
+use Rattle.{sim_bytes.proofs.{section.count.Goals.{else-is_in, then-is_in}, Steps.{count_none, count_some}}, std.proofs.Common.{arith, ◌∙◌}}
 
 pub loop-row-preserved : Rattle.sim_bytes.proofs.section.count.Goals.loop-row-preserved
 loop-row-preserved g c = elim c.if-is_in.branch [

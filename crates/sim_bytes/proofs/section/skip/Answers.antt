@@ -1,7 +1,6 @@
 -- One row more is passed over, or the rows end there.
 use Rattle.sim_bytes.proofs.section.skip.Goals as goal
-use Rattle.sim_bytes.{proofs.Steps.skip_done, proofs.Steps.skip_ends, proofs.Steps.skip_on, specs.Walking.skipped}
-use Rattle.std.proofs.lemmas.Result.{err_from_is_err_and}
+use Rattle.{sim_bytes.{proofs.Steps.{skip_done, skip_ends, skip_on}, specs.Walking.skipped}, std.proofs.lemmas.Result.err_from_is_err_and}
 
 pub returns-in_err-take : goal.returns-in_err-take
 returns-in_err-take g c =

@@ -1,6 +1,5 @@
 -- A row is told where it has the part.
-use Rattle.std.proofs.Common.{subst}
-use Rattle.sim_bytes.proofs.{Steps.bytes_none, Steps.bytes_some, section.tell_rows.Goals.in-Some+in_ok-tell, section.tell_rows.Goals.in_default}
+use Rattle.{sim_bytes.proofs.{section.tell_rows.Goals.{in-Some+in_ok-tell, in_default}, Steps.{bytes_none, bytes_some}}, std.proofs.Common.subst}
 
 pub loop-row-preserved : Rattle.sim_bytes.proofs.section.tell_rows.Goals.loop-row-preserved
 loop-row-preserved g c = elim c.match-of.branch [

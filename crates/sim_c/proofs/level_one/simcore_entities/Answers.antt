@@ -1,6 +1,5 @@
 -- What is answered is the answer of the call below, in the words of its definition.
-use Rattle.sim_c.{proofs.Mapped.mapped_cause, proofs.Mapped.mapped_is, specs.Gives.mapped}
-use Rattle.std.proofs.{Common.rules, Common.w32, lemmas.Int.to_z-of_z}
+use Rattle.{sim_c.{proofs.Mapped.{mapped_cause, mapped_is}, specs.Gives.mapped}, std.proofs.{Common.{rules, w32}, lemmas.Int.to_z-of_z}}
 use mir.Val.{SFits}
 
 pub returns : Rattle.sim_c.proofs.level_one.simcore_entities.Goals.returns

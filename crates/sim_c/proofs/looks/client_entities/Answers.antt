@@ -1,6 +1,5 @@
 -- What is answered are the entities of the client's state, in the words of their definition.
-use Rattle.sim_c.{proofs.Looked.looked_is, proofs.Looked.looked_none, specs.Gives.looked}
-use Rattle.std.proofs.{Common.rules, Common.w32, lemmas.Int.to_z-of_z}
+use Rattle.{sim_c.{proofs.Looked.{looked_is, looked_none}, specs.Gives.looked}, std.proofs.{Common.{rules, w32}, lemmas.Int.to_z-of_z}}
 use mir.Val.{SFits}
 
 pub returns : Rattle.sim_c.proofs.looks.client_entities.Goals.returns

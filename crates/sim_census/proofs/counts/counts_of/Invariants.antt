@@ -1,5 +1,4 @@
-use Rattle.sim_system.specs.Meanings.{population_among}
-use Rattle.std.proofs.Common.{get_or, length, ℕ, ◌<◌, ◌≡◌}
+use Rattle.{sim_system.specs.Meanings.population_among, std.proofs.Common.{get_or, length, ℕ, ◌<◌, ◌≡◌}}
 
 abbrev pub invariant-loop-owner : Rattle.sim_census.proofs.counts.counts_of.Given.invariant-loop-owner
 invariant-loop-owner l = record {

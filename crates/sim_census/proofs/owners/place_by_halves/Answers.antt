@@ -1,6 +1,5 @@
 -- The closure gives the id of an entity, and the ids ascend.
-use Rattle.{sim_census.proofs.Owning.place_by, sim_census.specs.declared.owned.Owned.Owned, std.proofs.Common.rules}
-use Rattle.std.proofs.lemmas.List.Sorted.{answers_always}
+use Rattle.{sim_census.{proofs.Owning.place_by, specs.declared.owned.Owned.Owned}, std.proofs.{Common.rules, lemmas.List.Sorted.answers_always}}
 
 pub returns : Rattle.sim_census.proofs.owners.place_by_halves.Goals.returns
 returns c =

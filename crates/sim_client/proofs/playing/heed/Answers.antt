@@ -1,7 +1,6 @@
 -- A player of the match gave the command. A release leaves what is known.
+use Rattle.sim_client.proofs.{Common.{All-nil, IsOrderOf, known_in, nat_lt, sym, [], ◌++◌, ◌∙◌, ◌∷◌}, Knowing.{player_of_test, players_put}}
 use Rattle.std.proofs.lemmas.List.Elements.{All-append, All-cons}
-use Rattle.sim_client.proofs.Common.{[], ◌∷◌, ◌++◌, nat_lt, All-nil, IsOrderOf, known_in, sym, ◌∙◌}
-use Rattle.sim_client.proofs.Knowing.{player_of_test, players_put}
 
 pub returns-in_ok-learn-in-Command-clause-players : Rattle.sim_client.proofs.playing.heed.Goals.returns-in_ok-learn-in-Command-clause-players
 returns-in_ok-learn-in-Command-clause-players c =

@@ -1,6 +1,5 @@
 -- The commands of the turn are known no more.
-use Rattle.sim_client.proofs.Common.{◌+◌, [], All-nil, IsOrderOf, IsValid, Setup, subst, ◌∙◌}
-use Rattle.sim_client.proofs.Knowing.{players_put}
+use Rattle.sim_client.proofs.{Common.{All-nil, IsOrderOf, IsValid, Setup, subst, [], ◌+◌, ◌∙◌}, Knowing.players_put}
 
 pub returns-clause-playing : Rattle.sim_client.proofs.playing.play_next.Goals.returns-clause-playing
 returns-clause-playing g c =

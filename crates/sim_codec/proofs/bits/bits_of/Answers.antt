@@ -1,6 +1,5 @@
 -- The place that was found is that of the one row with this id.
-use Rattle.sim_codec.proofs.OfEntity.{bits_absent, bits_there}
-use Rattle.sim_base.proofs.RowPlaces.{row_missing, row_there}
+use Rattle.{sim_base.proofs.RowPlaces.{row_missing, row_there}, sim_codec.proofs.OfEntity.{bits_absent, bits_there}}
 
 pub returns-in-None : Rattle.sim_codec.proofs.bits.bits_of.Goals.returns-in-None
 returns-in-None c =

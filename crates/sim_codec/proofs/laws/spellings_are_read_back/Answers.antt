@@ -1,6 +1,5 @@
 -- Each spelling stands for its state.
-use Rattle.sim_codec.proofs.Common.{refl, inl, inr, old_spelling, spelling}
-use Rattle.sim_codec.proofs.Standing.{old_spelling_read, spelling_read, stands_head}
+use Rattle.sim_codec.proofs.{Common.{inl, inr, old_spelling, refl, spelling}, Standing.{old_spelling_read, spelling_read, stands_head}}
 
 pub returns : Rattle.sim_codec.proofs.laws.spellings_are_read_back.Goals.returns
 returns c = record {

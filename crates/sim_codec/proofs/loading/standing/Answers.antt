@@ -1,6 +1,5 @@
 -- Where bytes stand for a state, it is the one that was read.
-use Rattle.sim_codec.proofs.Common.{err_from_is_err_and, rules}
-use Rattle.sim_codec.proofs.Standing.{IsRead, no_other, not_memory, refused_for, stands_by, unread}
+use Rattle.sim_codec.proofs.{Common.{err_from_is_err_and, rules}, Standing.{IsRead, no_other, not_memory, refused_for, stands_by, unread}}
 use Rattle.sim_codec.proofs.loading.standing.Goals as goal
 
 pub returns-in_err-version : goal.returns-in_err-version

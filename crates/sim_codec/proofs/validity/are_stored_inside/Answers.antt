@@ -1,6 +1,5 @@
 -- One point more passes.
-use Rattle.sim_codec.proofs.{Checked.all_seen, Checked.one_more, Common.◌∙◌}
-use Rattle.sim_codec.proofs.Common.{ℕ, ◌↔◌, List, [], IsTrue, ap, get_or, get_or_default, IsInside, point_in, refl, subst}
+use Rattle.sim_codec.proofs.{Checked.{all_seen, one_more}, Common.{ap, get_or, get_or_default, IsInside, IsTrue, List, point_in, refl, subst, ℕ, [], ◌↔◌, ◌∙◌}}
 
 pub loop-bytes-preserved : Rattle.sim_codec.proofs.validity.are_stored_inside.Goals.loop-bytes-preserved
 loop-bytes-preserved c =

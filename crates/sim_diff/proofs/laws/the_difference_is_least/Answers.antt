@@ -1,6 +1,5 @@
 -- Both ways of both clauses are lemmas.
-use Rattle.sim_diff.proofs.Common.{sym}
-use Rattle.sim_diff.proofs.LeastPlace.{difference_of-none, difference_of-some, least-difference_of, same-difference_of}
+use Rattle.sim_diff.proofs.{Common.sym, LeastPlace.{difference_of-none, difference_of-some, least-difference_of, same-difference_of}}
 
 pub returns : Rattle.sim_diff.proofs.laws.the_difference_is_least.Goals.returns
 returns c = record {

@@ -1,7 +1,6 @@
 -- All that was passed is the same: the entities below the counter, and then those of which neither list has a row left.
 use Rattle.sim_diff.proofs.merge.difference.Given as goal
-use Rattle.sim_diff.proofs.Common.{AreRowsOf, bits, length, Part, ℕ, ◌+◌, ◌<◌, ◌≡◌}
-use Rattle.sim_diff.proofs.OneSpelling.{IsSameElsewhere, Rising}
+use Rattle.sim_diff.proofs.{Common.{AreRowsOf, bits, length, Part, ℕ, ◌+◌, ◌<◌, ◌≡◌}, OneSpelling.{IsSameElsewhere, Rising}}
 
 abbrev pub invariant-first : goal.invariant-first
 invariant-first l = (id : ℕ) → id < l.entity → (part : Part) → bits l.left id part ≡ bits l.right id part

@@ -1,7 +1,6 @@
 -- A read that is interrupted takes nothing from what is left, and one try fewer is left.
-use Rattle.std.proofs.Common.{◌≡◌, ℕ, ◌-◌, List, length}
-use Rattle.std.specs.{Io.KnownBytes.Keeps, Prelude.Result, declared.io.Error.Error}
-use Rattle.sim_edge.specs.{Again.AnswersIn, Again.read_call, declared.again.TheConstants.TRIES}
+use Rattle.sim_edge.specs.{Again.{AnswersIn, read_call}, declared.again.TheConstants.TRIES}
+use Rattle.std.{proofs.Common.{length, List, ℕ, ◌-◌, ◌≡◌}, specs.{declared.io.Error.Error, Io.KnownBytes.Keeps, Prelude.Result}}
 
 abbrev pub invariant-loop : Rattle.sim_edge.proofs.again.read_again.Given.invariant-loop
 invariant-loop g l = record {

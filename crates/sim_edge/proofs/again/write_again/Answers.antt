@@ -1,7 +1,6 @@
 -- A write that was not interrupted ends the tries, and one that was leaves one fewer.
-use Rattle.std.proofs.Common.{◌≡◌, ◌-◌, true, false, refl, arith, rules}
-use Rattle.sim_edge.proofs.Tries.{AnswersIn-again, AnswersIn-last, AnswersIn-none}
-use Rattle.sim_edge.specs.{Again.IsInterrupted, declared.again.TheConstants.TRIES}
+use Rattle.sim_edge.{proofs.Tries.{AnswersIn-again, AnswersIn-last, AnswersIn-none}, specs.{Again.IsInterrupted, declared.again.TheConstants.TRIES}}
+use Rattle.std.proofs.Common.{arith, false, refl, rules, true, ◌-◌, ◌≡◌}
 use Rattle.sim_edge.proofs.again.write_again.Goals as goal
 
 pub returns-then-not-is_interrupted-clause-answer :

@@ -1,8 +1,7 @@
 -- A refusal is told, or a beginning of it, or it has no text.
-use Rattle.sim_edge.proofs.Refusing.{refused_memory, refused_part, refused_silent, refused_told}
-use Rattle.{sim_edge.specs.Talked.Refused, sim_top.specs.Stops.status_of, sim_top.specs.Stops.stop_text, sim_top.specs.declared.status.Status.Status}
-use Rattle.std.proofs.Common.{[], ◌<◌, ◌∙◌, ◌≡◌, arith, length, subst, sym}
-use Rattle.std.proofs.lemmas.{Bool.eqb-true, Bool.Decides.nat_tests, List.nil_from_length}
+use Rattle.sim_edge.{proofs.Refusing.{refused_memory, refused_part, refused_silent, refused_told}, specs.Talked.Refused}
+use Rattle.sim_top.specs.{declared.status.Status.Status, Stops.{status_of, stop_text}}
+use Rattle.std.proofs.{Common.{arith, length, subst, sym, [], ◌<◌, ◌∙◌, ◌≡◌}, lemmas.{Bool.{Decides.nat_tests, eqb-true}, List.nil_from_length}}
 use Rattle.sim_edge.specs.declared.ending.Ending.TheVariants as ending
 use Rattle.sim_edge.proofs.conversing.refused.Goals as goal
 

@@ -1,8 +1,7 @@
 -- The match is read, and has as many players as are to begin.
 use Rattle.sim_edge.proofs.conversing.session_match.Goals as goal
-use Rattle.sim_edge.{proofs.Refusing.reads_few, proofs.Refusing.reads_match, proofs.Refusing.reads_stopped, proofs.Refusing.where_known, specs.Talked.ReadsFor}
-use Rattle.std.{proofs.Common.Result, proofs.Common.rules, proofs.Common.subst, proofs.Common.sym, proofs.Common.◌≡◌, specs.Prelude.IfSome}
-use Rattle.{sim_base.specs.declared.setup.Setup.Setup, sim_top.specs.Outcome.session_match_in, sim_top.specs.declared.stop.Stop.Stop, std.proofs.Common.Err}
+use Rattle.{sim_base.specs.declared.setup.Setup.Setup, sim_edge.{proofs.Refusing.{reads_few, reads_match, reads_stopped, where_known}, specs.Talked.ReadsFor}}
+use Rattle.{sim_top.specs.{declared.stop.Stop.Stop, Outcome.session_match_in}, std.{proofs.Common.{Err, Result, rules, subst, sym, ◌≡◌}, specs.Prelude.IfSome}}
 
 pub returns-in_err-setup-clause-tells : goal.returns-in_err-setup-clause-tells
 returns-in_err-setup-clause-tells g c =

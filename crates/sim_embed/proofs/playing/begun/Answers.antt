@@ -1,6 +1,5 @@
 -- The state on the board is the first one, which is valid.
-use Rattle.std.proofs.Common.{sym, ◌≡◌}
-use Rattle.{sim_base.specs.Limits.IsValid, sim_base.specs.Turn.first_state, sim_laws.proofs.Validity.first_state_is_valid, std.proofs.Common.subst}
+use Rattle.{sim_base.specs.{Limits.IsValid, Turn.first_state}, sim_laws.proofs.Validity.first_state_is_valid, std.proofs.Common.{subst, sym, ◌≡◌}}
 
 pub of-requires : Rattle.sim_embed.proofs.playing.begun.Goals.of-requires
 of-requires g c =

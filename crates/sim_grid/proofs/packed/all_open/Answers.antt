@@ -1,5 +1,4 @@
-use Rattle.std.proofs.Common.{ℕ, List, replicate, true, subst, sym}
-use Rattle.sim_grid.{proofs.Words.packed_open, specs.Packed.ArePacked}
+use Rattle.{sim_grid.{proofs.Words.packed_open, specs.Packed.ArePacked}, std.proofs.Common.{List, replicate, subst, sym, true, ℕ}}
 
 pub returns : Rattle.sim_grid.proofs.packed.all_open.Goals.returns
 returns c =

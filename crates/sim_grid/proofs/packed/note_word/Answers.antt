@@ -1,7 +1,6 @@
 -- One bit is set or cleared, and the others stay.
-use Rattle.std.proofs.Common.{ap, arith, length, nat_eq, sym, w64, ℕ, ◌%◌, ◌/◌, ◌<◌, ◌∙◌}
-use Rattle.std.proofs.lemmas.{List.get_or_default, Nat.Bits.bit_at_clear_other, Nat.Bits.bit_at_clear_same, Nat.Bits.bit_at_set_other, Nat.Bits.bit_at_set_same}
-use Rattle.{sim_grid.proofs.Words.packed_with, std.specs.Int.bit_at}
+use Rattle.{sim_grid.proofs.Words.packed_with, std.proofs.Common.{ap, arith, length, nat_eq, sym, w64, ℕ, ◌%◌, ◌/◌, ◌<◌, ◌∙◌}}
+use Rattle.std.{proofs.lemmas.{List.get_or_default, Nat.Bits.{bit_at_clear_other, bit_at_clear_same, bit_at_set_other, bit_at_set_same}}, specs.Int.bit_at}
 
 pub returns-then-free : Rattle.sim_grid.proofs.packed.note_word.Goals.returns-then-free
 returns-then-free c = λ cells p lt.

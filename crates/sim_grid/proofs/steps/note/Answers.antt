@@ -1,7 +1,5 @@
-use Rattle.sim_grid.proofs.Beside.{place-below, places-apart}
-use Rattle.sim_grid.specs.Grids.{AreStepsFrom, field_of_grid, IsNoted, place_of}
-use Rattle.std.proofs.Common.{arith, length, set, subst, sym, ℕ, ◌<◌}
-use Rattle.std.proofs.lemmas.List.{get_or-set_other, get_or-set_same, length-set}
+use Rattle.sim_grid.{proofs.Beside.{place-below, places-apart}, specs.Grids.{AreStepsFrom, field_of_grid, IsNoted, place_of}}
+use Rattle.std.proofs.{Common.{arith, length, set, subst, sym, ℕ, ◌<◌}, lemmas.List.{get_or-set_other, get_or-set_same, length-set}}
 
 pub returns : Rattle.sim_grid.proofs.steps.note.Goals.returns
 returns c =

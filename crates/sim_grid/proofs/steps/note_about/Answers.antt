@@ -1,6 +1,5 @@
 use Rattle.sim_grid.proofs.steps.note_about.Goals as goal
-use Rattle.sim_grid.proofs.Beside.{noted-all, noted-first, noted-more, noted-past}
-use Rattle.sim_grid.{proofs.steps.note_about.Goals.in-Some, proofs.steps.note_about.Goals.in_default, specs.Grids.AreStepsBefore}
+use Rattle.sim_grid.{proofs.{Beside.{noted-all, noted-first, noted-more, noted-past}, steps.note_about.Goals.{in-Some, in_default}}, specs.Grids.AreStepsBefore}
 use Rattle.std.proofs.Common.{Global, subst, sym, Vec, ℕ, ◌+◌, ◌∙◌}
 
 pub loop-which-init : goal.loop-which-init

@@ -1,5 +1,4 @@
-use Rattle.sim_grid.{proofs.Beside.first-more, specs.Grids.AreFirstSteps}
-use Rattle.std.proofs.Common.{arith, List, subst, sym, ℕ, ◌*◌, ◌+◌}
+use Rattle.{sim_grid.{proofs.Beside.first-more, specs.Grids.AreFirstSteps}, std.proofs.Common.{arith, List, subst, sym, ℕ, ◌*◌, ◌+◌}}
 
 pub loop-x-preserved : Rattle.sim_grid.proofs.steps.push_row.Goals.loop-x-preserved
 loop-x-preserved c =

@@ -1,6 +1,5 @@
-use Rattle.sim_grid.proofs.{Bits.AreBits, Bits.bits_more, Bits.bits_past, steps.steps_from.Goals.else-leads_on, steps.steps_from.Goals.then-leads_on}
-use Rattle.sim_grid.specs.Grids.{field_of_grid, is_open_step}
-use Rattle.std.proofs.Common.{Bool, subst, sym, ℕ, ◌+◌, ◌∙◌}
+use Rattle.sim_grid.proofs.{Bits.{AreBits, bits_more, bits_past}, steps.steps_from.Goals.{else-leads_on, then-leads_on}}
+use Rattle.{sim_grid.specs.Grids.{field_of_grid, is_open_step}, std.proofs.Common.{Bool, subst, sym, ℕ, ◌+◌, ◌∙◌}}
 
 pub loop-which-preserved : Rattle.sim_grid.proofs.steps.steps_from.Goals.loop-which-preserved
 loop-which-preserved c =

@@ -1,5 +1,4 @@
-use Rattle.sim_grid.specs.Grids.{field_of_grid, is_open_step}
-use Rattle.std.{proofs.Common.cond, proofs.Common.ℕ, proofs.Common.◌<◌, proofs.Common.◌≡◌, proofs.Common.◌≤◌, specs.Int.bit_at}
+use Rattle.{sim_grid.specs.Grids.{field_of_grid, is_open_step}, std.{proofs.Common.{cond, ℕ, ◌<◌, ◌≡◌, ◌≤◌}, specs.Int.bit_at}}
 
 abbrev pub invariant-loop-which : Rattle.sim_grid.proofs.steps.steps_from.Given.invariant-loop-which
 invariant-loop-which l = record {

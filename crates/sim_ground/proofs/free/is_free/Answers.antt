@@ -1,6 +1,5 @@
 -- Rectangles on the land without a cell in common are those whose cells are open.
-use Rattle.sim_ground.proofs.Common.{Bool, not, ◌&&◌, ap, Fact, list_any, overlap, overlaps_any, sym, ◌∙◌}
-use Rattle.sim_ground.proofs.Freeing.{free_is}
+use Rattle.sim_ground.proofs.{Common.{ap, Bool, Fact, list_any, not, overlap, overlaps_any, sym, ◌&&◌, ◌∙◌}, Freeing.free_is}
 
 pub returns-then-is_inside : Rattle.sim_ground.proofs.free.is_free.Goals.returns-then-is_inside
 returns-then-is_inside c =

@@ -1,6 +1,5 @@
 -- The cell is added where it was turned.
-use Rattle.sim_ground.proofs.Common.{Cell, label_in, List, same_cell, subst, sym, ◌∙◌}
-use Rattle.sim_ground.{proofs.Adding.adds_cell, proofs.Adding.adds_none, specs.Mending.AddsTurned}
+use Rattle.sim_ground.{proofs.{Adding.{adds_cell, adds_none}, Common.{Cell, label_in, List, same_cell, subst, sym, ◌∙◌}}, specs.Mending.AddsTurned}
 
 pub returns-in_ok-push : Rattle.sim_ground.proofs.mended.push_turned.Goals.returns-in_ok-push
 returns-in_ok-push c =

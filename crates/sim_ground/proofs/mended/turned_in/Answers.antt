@@ -1,8 +1,7 @@
 -- The cells of one row more are added, if they were turned, and in the end those of the window, which are those of the rectangle.
 use Rattle.sim_ground.proofs.mended.turned_in.Goals as goal
-use Rattle.sim_ground.proofs.Common.{Cell, List, [], arith, covers, in_row, subst, sym, ℕ, ◌+◌, ◌≡◌}
-use Rattle.sim_ground.proofs.{Adding.adds_more, Adding.adds_nothing, Adding.adds_same, Common.in_rows, Common.label_in, Layers.rows_more, Layers.rows_none}
-use Rattle.sim_ground.specs.{Closing.in_window, Mending.AddsTurned}
+use Rattle.sim_ground.proofs.{Adding.{adds_more, adds_nothing, adds_same}, Common.{arith, Cell, covers, in_row, in_rows, label_in, List, subst, sym, ℕ, []}}
+use Rattle.sim_ground.{proofs.{Common.{◌+◌, ◌≡◌}, Layers.{rows_more, rows_none}}, specs.{Closing.in_window, Mending.AddsTurned}}
 
 pub loop-z-init : goal.loop-z-init
 loop-z-init c =

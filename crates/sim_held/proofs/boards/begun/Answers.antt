@@ -1,6 +1,5 @@
 -- The first state is valid.
-use Rattle.{sim_base.specs.Limits.IsValid, sim_base.specs.Turn.first_state, sim_held.proofs.Common.ap, sim_held.proofs.Common.subst, sim_held.proofs.Common.sym}
-use Rattle.{sim_held.proofs.Common.◌∙◌, sim_laws.proofs.Validity.first_state_is_valid}
+use Rattle.{sim_base.specs.{Limits.IsValid, Turn.first_state}, sim_held.proofs.Common.{ap, subst, sym, ◌∙◌}, sim_laws.proofs.Validity.first_state_is_valid}
 
 pub returns-clause-valid : Rattle.sim_held.proofs.boards.begun.Goals.returns-clause-valid
 returns-clause-valid g c =

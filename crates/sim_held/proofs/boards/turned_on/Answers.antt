@@ -1,9 +1,8 @@
 -- A call through the box of a planner is a call of `planned`, which may be given a command of each kind; and each kind has a
 -- handler.
 use denote.Param.Callables.{held_fn, Sure}
-use Rattle.std.proofs.Common.{◌+◌, refl, arith, subst, sym}
-use Rattle.sim_base.proofs.Keyed.{AreKeyedBelow, AreKeyedBelow-append}
-use Rattle.{sim_held.proofs.boards.turned_on.OwnLists.own-2, sim_orders.proofs.Planning.of_kind, sim_orders.specs.Orders.Fulfils}
+use Rattle.{sim_base.proofs.Keyed.{AreKeyedBelow, AreKeyedBelow-append}, sim_held.proofs.boards.turned_on.OwnLists.own-2}
+use Rattle.{sim_orders.{proofs.Planning.of_kind, specs.Orders.Fulfils}, std.proofs.Common.{arith, refl, subst, sym, ◌+◌}}
 use Rattle.sim_held.proofs.boards.turned_on.Goals as goal
 
 pub invariant_of-push : goal.invariant_of-push

@@ -1,8 +1,7 @@
 -- What is said has frames, and is what the definition says.
 use Rattle.sim_held.proofs.hearing.hear_on.Goals as goal
-use Rattle.sim_client.specs.{ClientWords.NeedsNoMemory, Lives.On, Lives.hears, Lives.says_of, StageWords.player_at}
-use Rattle.sim_held.proofs.Common.{ap, Goes, IsStage, life_at, None, subst, sym, ◌≡◌}
-use Rattle.sim_held.proofs.Passing.{hear_small, says_none, silent_did}
+use Rattle.sim_client.specs.{ClientWords.NeedsNoMemory, Lives.{hears, On, says_of}, StageWords.player_at}
+use Rattle.sim_held.proofs.{Common.{ap, Goes, IsStage, life_at, None, subst, sym, ◌≡◌}, Passing.{hear_small, says_none, silent_did}}
 
 pub say-requires : goal.say-requires
 say-requires c =

@@ -1,6 +1,5 @@
 -- The run so far, and the board and the seat on which it goes on.
-use Rattle.sim_held.specs.Clients.{RanOn, runs}
-use Rattle.{sim_board.specs.Boards.state_in, sim_client.specs.Lives.On, sim_client.specs.StageWords.IsPlayingBy, sim_client.specs.StageWords.player_at}
+use Rattle.{sim_board.specs.Boards.state_in, sim_client.specs.{Lives.On, StageWords.{IsPlayingBy, player_at}}, sim_held.specs.Clients.{RanOn, runs}}
 
 abbrev pub invariant-loop-played : Rattle.sim_held.proofs.turns.play_turns.Given.invariant-loop-played
 invariant-loop-played g l =

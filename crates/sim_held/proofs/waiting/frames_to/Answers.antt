@@ -1,8 +1,7 @@
 -- The frames of one list more.
 use Rattle.sim_held.proofs.waiting.frames_to.Goals as goal
 use Rattle.sim_held.proofs.Common.{ap, arith, down_frame, flat_map, flat_map-append, get_or, length, sym, take, take_all, told_to, ◌++◌, ◌<◌, ◌∙◌}
-use Rattle.sim_held.{proofs.Waits.flat_map_more, proofs.Waits.none_by_list, specs.Servers.frames_for, specs.Servers.waiting}
-use Rattle.std.proofs.lemmas.Bool.{false≢true}
+use Rattle.{sim_held.{proofs.Waits.{flat_map_more, none_by_list}, specs.Servers.{frames_for, waiting}}, std.proofs.lemmas.Bool.false≢true}
 
 pub loop-posts-preserved : goal.loop-posts-preserved
 loop-posts-preserved c =

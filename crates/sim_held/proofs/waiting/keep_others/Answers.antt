@@ -1,6 +1,5 @@
 -- One list more has the posts to others alone.
-use Rattle.std.proofs.{Common.◌==◌, lemmas.List.Edits.map_over_more, lemmas.List.get_or_default}
-use Rattle.sim_held.proofs.Common.{ap, arith, filter, length, not, ◌∙◌}
+use Rattle.{sim_held.proofs.Common.{ap, arith, filter, length, not, ◌∙◌}, std.proofs.{Common.◌==◌, lemmas.List.{Edits.map_over_more, get_or_default}}}
 
 pub loop-posts-preserved : Rattle.sim_held.proofs.waiting.keep_others.Goals.loop-posts-preserved
 loop-posts-preserved c =

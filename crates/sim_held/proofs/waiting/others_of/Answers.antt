@@ -1,6 +1,5 @@
 -- The posts that stay are those to others.
-use Rattle.std.proofs.{Common.◌==◌, lemmas.Fn.filter_same}
-use Rattle.sim_held.proofs.Common.{not, filter, ap, rules, ◌∙◌}
+use Rattle.{sim_held.proofs.Common.{ap, filter, not, rules, ◌∙◌}, std.proofs.{Common.◌==◌, lemmas.Fn.filter_same}}
 
 pub returns : Rattle.sim_held.proofs.waiting.others_of.Goals.returns
 returns c =

@@ -1,7 +1,6 @@
 -- The frame of one post more, if it is to this client.
-use Rattle.sim_held.proofs.Common.{◌<◌, length, ◌++◌, [], ◌∷◌, take, append-nil, append_assoc, arith, ap, down_frame, flat_map, flat_map-append, sym, take_all, told_to, ◌∙◌}
-use Rattle.sim_pipes.proofs.Telling.{told_more}
-use Rattle.{sim_held.proofs.Waits.none_by_post, std.proofs.lemmas.Bool.false≢true}
+use Rattle.sim_held.proofs.Common.{ap, append-nil, append_assoc, arith, down_frame, flat_map, flat_map-append, length, sym, take, take_all, told_to, [], ◌++◌}
+use Rattle.{sim_held.proofs.{Common.{◌<◌, ◌∙◌, ◌∷◌}, Waits.none_by_post}, sim_pipes.proofs.Telling.told_more, std.proofs.lemmas.Bool.false≢true}
 use Rattle.sim_held.proofs.waiting.push_posts.Goals as goal
 
 pub loop-post-init : goal.loop-post-init

@@ -1,6 +1,5 @@
 -- The ids so far, and as many as there were items. Where an item is an id, the first one is.
-use Rattle.std.proofs.Common.{[], length, map, true, ◌+◌, ◌≡◌, ◌≤◌}
-use Rattle.{serde_json.specs.View.view, sim_json.specs.Commands.begins_with_id, sim_json.specs.Commands.id_in, sim_json.specs.Commands.records}
+use Rattle.{serde_json.specs.View.view, sim_json.specs.Commands.{begins_with_id, id_in, records}, std.proofs.Common.{length, map, true, [], ◌+◌, ◌≡◌, ◌≤◌}}
 
 abbrev pub invariant-loop-rest : Rattle.sim_json.proofs.ids.ids_from.Given.invariant-loop-rest
 invariant-loop-rest l = record {

@@ -1,5 +1,4 @@
-use Rattle.std.specs.List.{list_all}
-use Rattle.{serde_json.specs.View.view, sim_json.specs.Values.is_row_of, std.proofs.Common.length, std.proofs.Common.map, std.proofs.Common.◌≡◌}
+use Rattle.{serde_json.specs.View.view, sim_json.specs.Values.is_row_of, std.{proofs.Common.{length, map, ◌≡◌}, specs.List.list_all}}
 
 abbrev pub invariant-loop-rest : Rattle.sim_json.proofs.kinds.all_rows_of.Given.invariant-loop-rest
 invariant-loop-rest l = list_all (is_row_of l.length) (map view l.rest) ≡ list_all (is_row_of l.length) (map view l.items)

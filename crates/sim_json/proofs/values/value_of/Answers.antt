@@ -1,7 +1,6 @@
 -- Bytes are a text, or they have no value.
-use Rattle.{sim_json.proofs.Texts.no_value, sim_json.proofs.Texts.utf8_holds, sim_json.proofs.Texts.utf8_value, std.specs.Prelude.option_map}
-use Rattle.std.proofs.{Common.◌≡◌, Common.IfOk, Common.Option, Common.ap, Common.subst, Common.sym, Common.◌∙◌, lemmas.Bool.false≢true}
-use Rattle.serde_json.specs.{Data.Data, Read.read, View.view}
+use Rattle.{serde_json.specs.{Data.Data, Read.read, View.view}, sim_json.proofs.Texts.{no_value, utf8_holds, utf8_value}}
+use Rattle.std.{proofs.{Common.{ap, IfOk, Option, subst, sym, ◌∙◌, ◌≡◌}, lemmas.Bool.false≢true}, specs.Prelude.option_map}
 use Rattle.sim_json.proofs.values.value_of.Goals as goal
 
 pub returns-in-Ok-clause-value : goal.returns-in-Ok-clause-value

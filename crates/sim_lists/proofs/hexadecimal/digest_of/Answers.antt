@@ -1,6 +1,5 @@
 -- 32 digits are 16 bytes.
-use Rattle.std.proofs.Common.{length, ap, arith, sym, ◌∙◌}
-use Rattle.sim_lists.proofs.HexLengths.{hex_length}
+use Rattle.{sim_lists.proofs.HexLengths.hex_length, std.proofs.Common.{ap, arith, length, sym, ◌∙◌}}
 
 pub copy_from_slice-requires : Rattle.sim_lists.proofs.hexadecimal.digest_of.Goals.copy_from_slice-requires
 copy_from_slice-requires c =

@@ -1,7 +1,6 @@
 -- The arrivals so far, each from a client.
-use Rattle.std.proofs.Common.{length, map, ℕ, ◌≡◌}
-use Rattle.{serde_json.specs.View.view, sim_json.specs.Commands.numbered, sim_lists.specs.Arrivals.arrival_of, sim_lists.specs.Arrivals.arrival_takes}
-use Rattle.{sim_lists.specs.StepLists.IsFromClient, sim_lists.specs.StepLists.early_items, std.proofs.Common.All, std.proofs.Common.Some, std.proofs.Common.[]}
+use Rattle.{serde_json.specs.View.view, sim_json.specs.Commands.numbered, sim_lists.specs.Arrivals.{arrival_of, arrival_takes}}
+use Rattle.{sim_lists.specs.StepLists.{early_items, IsFromClient}, std.proofs.Common.{All, length, map, Some, ℕ, [], ◌≡◌}}
 
 abbrev pub invariant-loop-rest : Rattle.sim_lists.proofs.reading.arrivals_from.Given.invariant-loop-rest
 invariant-loop-rest l = record {

@@ -1,7 +1,6 @@
 -- The steps so far, each of a player.
-use Rattle.std.proofs.Common.{length, map, ℕ, ◌≡◌}
-use Rattle.{serde_json.specs.View.view, sim_json.specs.Commands.numbered, sim_lists.specs.Arrivals.step_takes, sim_lists.specs.StepLists.IsStep}
-use Rattle.{sim_lists.specs.StepLists.early_items, sim_lists.specs.StepLists.step_of, std.proofs.Common.All, std.proofs.Common.Some, std.proofs.Common.[]}
+use Rattle.{serde_json.specs.View.view, sim_json.specs.Commands.numbered, sim_lists.specs.{Arrivals.step_takes, StepLists.{early_items, IsStep, step_of}}}
+use Rattle.std.proofs.Common.{All, length, map, Some, ℕ, [], ◌≡◌}
 
 abbrev pub invariant-loop-rest : Rattle.sim_lists.proofs.step_reading.steps_from.Given.invariant-loop-rest
 invariant-loop-rest l = record {

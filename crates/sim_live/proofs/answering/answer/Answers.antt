@@ -1,9 +1,8 @@
 -- What a line asks for is read first, and then answered.
 use Rattle.sim_live.proofs.answering.answer.Goals as goal
-use Rattle.std.proofs.Common.{ℕ, ◌++◌, ◌∙◌, ◌≡◌}
-use Rattle.{sim_base.specs.declared.setup.Setup.Setup, sim_live.specs.Live.IsLine, sim_live.specs.Live.answer_to, sim_live.specs.Live.line_of}
-use Rattle.{sim_live.specs.Live.steps_with, sim_live.specs.declared.line.Line.Line, sim_plain_session.specs.Sessions.session, sim_session.specs.Going.seen_in}
-use Rattle.{sim_session.specs.Standing.StandsFor, std.proofs.Common.List, std.proofs.Common.ap, std.proofs.Common.length, std.proofs.Common.subst}
+use Rattle.{sim_base.specs.declared.setup.Setup.Setup, sim_live.specs.{declared.line.Line.Line, Live.{answer_to, IsLine, line_of, steps_with}}}
+use Rattle.{sim_plain_session.specs.Sessions.session, sim_session.specs.{Going.seen_in, Standing.StandsFor}}
+use Rattle.std.proofs.Common.{ap, length, List, subst, ℕ, ◌++◌, ◌∙◌, ◌≡◌}
 
 pub push_answer-requires-clause-line : goal.push_answer-requires-clause-line
 push_answer-requires-clause-line g c =

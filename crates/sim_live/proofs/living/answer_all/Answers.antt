@@ -1,10 +1,9 @@
 -- Each line is heard, and then its answer is told.
 use Rattle.sim_talk.specs.declared.fault.TalkFault.TheVariants as ends
 use Rattle.sim_live.proofs.living.answer_all.Goals as goal
-use Rattle.sim_live.proofs.Answered.{all_answered, answered_line, answered_nothing, stands_some, unheard_line, unmade_line, untold_line}
-use Rattle.std.proofs.Common.{Ok, [], ap, arith, false, rules, subst, sym, true, ℕ, ◌∙◌, ◌∷◌, ◌≡◌}
-use Rattle.{sim_live.specs.Live.answer, sim_session.proofs.Builds.keeps_on, sim_session.proofs.Builds.kept, sim_session.specs.Going.seen_in}
-use Rattle.{sim_talk.specs.Talks.Extends, sim_talk.specs.Talks.Hears, sim_talk.specs.Talks.heard, std.proofs.Common.Err, std.proofs.Common.List}
+use Rattle.sim_live.{proofs.Answered.{all_answered, answered_line, answered_nothing, stands_some, unheard_line, unmade_line, untold_line}, specs.Live.answer}
+use Rattle.{sim_session.{proofs.Builds.{keeps_on, kept}, specs.Going.seen_in}, sim_talk.specs.Talks.{Extends, heard, Hears}}
+use Rattle.std.proofs.Common.{ap, arith, Err, false, List, Ok, rules, subst, sym, true, ℕ, [], ◌∙◌, ◌∷◌, ◌≡◌}
 
 pub loop-before-init : goal.loop-before-init
 loop-before-init g c = record {

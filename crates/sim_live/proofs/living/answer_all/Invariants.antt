@@ -1,7 +1,6 @@
 -- Some lines were answered, and the session stands for that over their steps.
 use Rattle.sim_live.proofs.living.answer_all.Given as goal
-use Rattle.std.proofs.Common.{◌≤◌}
-use Rattle.{sim_live.proofs.Answered.HasAnswered, sim_session.specs.Going.IsSessionBy, sim_session.specs.Going.KeepsBy, sim_session.specs.Going.seen_in}
+use Rattle.{sim_live.proofs.Answered.HasAnswered, sim_session.specs.Going.{IsSessionBy, KeepsBy, seen_in}, std.proofs.Common.◌≤◌}
 
 abbrev pub invariant-loop-before : goal.invariant-loop-before
 invariant-loop-before g l =

@@ -2,8 +2,7 @@
 use Rattle.sim_talk.specs.declared.fault.TalkFault.TheVariants as ends
 use Rattle.sim_live.proofs.living.live.Goals as goal
 use Rattle.sim_live.proofs.Answered.{live_caused, live_settled, live_unmade}
-use Rattle.std.proofs.Common.{refl, subst, sym}
-use Rattle.{sim_session.proofs.Builds.came_back, sim_session.specs.Going.ComeBackBy, sim_talk.proofs.Talking.nothing_kept, std.proofs.Common.Err}
+use Rattle.{sim_session.{proofs.Builds.came_back, specs.Going.ComeBackBy}, sim_talk.proofs.Talking.nothing_kept, std.proofs.Common.{Err, refl, subst, sym}}
 
 pub returns-in-Ok-clause-lives : goal.returns-in-Ok-clause-lives
 returns-in-Ok-clause-lives g c =

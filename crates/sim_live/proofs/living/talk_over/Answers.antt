@@ -1,11 +1,10 @@
 -- The whole talk of its parts.
 use Rattle.sim_talk.specs.declared.fault.TalkFault.TheVariants as ends
 use Rattle.sim_live.proofs.living.talk_over.Goals as goal
-use Rattle.sim_live.proofs.Answered.{live_amid, live_ended, live_unbegun, live_unmade}
-use Rattle.std.proofs.Common.{[], rules, subst, ◌∙◌, ◌∷◌, ◌≡◌}
-use Rattle.{sim_base.specs.declared.setup.Setup.Setup, sim_live.specs.Live.AnswersAll, sim_live.specs.Live.first_text, sim_live.specs.Live.last_text}
-use Rattle.{sim_plain_session.specs.Sessions.session, sim_session.proofs.Builds.keeps_on, sim_session.specs.Going.seen_in, sim_session.specs.Standing.StandsFor}
-use Rattle.{sim_talk.specs.Dialogues.TellsText, sim_talk.specs.Talks.Extends, sim_talk.specs.Talks.told, std.proofs.Common.Err, std.proofs.Common.Ok}
+use Rattle.sim_base.specs.declared.setup.Setup.{Setup}
+use Rattle.sim_live.{proofs.Answered.{live_amid, live_ended, live_unbegun, live_unmade}, specs.Live.{AnswersAll, first_text, last_text}}
+use Rattle.{sim_plain_session.specs.Sessions.session, sim_session.{proofs.Builds.keeps_on, specs.{Going.seen_in, Standing.StandsFor}}}
+use Rattle.{sim_talk.specs.{Dialogues.TellsText, Talks.{Extends, told}}, std.proofs.Common.{Err, Ok, rules, subst, [], ◌∙◌, ◌∷◌, ◌≡◌}}
 
 pub returns-in_err-start-clause-lives : goal.returns-in_err-start-clause-lives
 returns-in_err-start-clause-lives g c =

@@ -1,10 +1,9 @@
 -- What is seen of the session is what is told of the defined one.
 use Rattle.sim_talk.specs.declared.fault.TalkFault.TheVariants as ends
 use Rattle.sim_live.proofs.living.tell_ending.Goals as goal
-use Rattle.std.proofs.Common.{[], All, ap, Err, length, List, rules, subst, sym, ℕ, ◌++◌, ◌∙◌, ◌∷◌, ◌≡◌}
-use Rattle.{sim_live.proofs.Answered.told_part, sim_live.proofs.Seen.ending_is, sim_plain_session.specs.Sessions.session, sim_session.specs.Going.seen_in}
-use Rattle.{sim_session.specs.Seen.IsMember, sim_session.specs.Seen.ending_seen, sim_session.specs.Seen.life_at, sim_talk.specs.Talks.Extends}
-use Rattle.{sim_talk.specs.Talks.told, std.specs.Prelude.string_bytes}
+use Rattle.{sim_live.proofs.{Answered.told_part, Seen.ending_is}, sim_plain_session.specs.Sessions.session}
+use Rattle.{sim_session.specs.{Going.seen_in, Seen.{ending_seen, IsMember, life_at}}, sim_talk.specs.Talks.{Extends, told}}
+use Rattle.std.{proofs.Common.{All, ap, Err, length, List, rules, subst, sym, ℕ, [], ◌++◌, ◌∙◌, ◌∷◌, ◌≡◌}, specs.Prelude.string_bytes}
 
 pub push_ending-requires-clause-clients : goal.push_ending-requires-clause-clients
 push_ending-requires-clause-clients g c =

@@ -1,8 +1,7 @@
 -- What is seen is what the session shows.
 use Rattle.sim_live.proofs.looking.push_look.Goals as goal
-use Rattle.{sim_client.specs.ClientWords.life, sim_live.proofs.Seen.digest_looked, sim_live.proofs.Seen.kept_looked, sim_live.proofs.Seen.pipes_looked}
-use Rattle.{sim_live.proofs.Seen.show_looked, sim_live.proofs.Seen.state_looked, sim_server.specs.Standing.server_of, sim_session.proofs.Beside.then_on}
-use Rattle.{sim_session.specs.Going.seen_in, std.proofs.Common.ap}
+use Rattle.{sim_client.specs.ClientWords.life, sim_live.proofs.Seen.{digest_looked, kept_looked, pipes_looked, show_looked, state_looked}}
+use Rattle.{sim_server.specs.Standing.server_of, sim_session.{proofs.Beside.then_on, specs.Going.seen_in}, std.proofs.Common.ap}
 
 pub returns-in-Digest : goal.returns-in-Digest
 returns-in-Digest g c =

@@ -1,7 +1,6 @@
 -- Each line is heard, and then its answer is told.
-use Rattle.sim_live.proofs.Relayed.{all_relayed, answered_line, answered_nothing, unheard_relayed, unmade_relayed, untold_relayed}
-use Rattle.{sim_live.specs.Relays.answer, sim_talk.specs.Talks.Extends, sim_talk.specs.Talks.heard, sim_talk.specs.Talks.Hears}
-use Rattle.std.proofs.Common.{[], ◌∙◌, ◌∷◌, ◌≡◌, ap, arith, Err, false, List, Ok, rules, subst, sym, true, ℕ}
+use Rattle.sim_live.{proofs.Relayed.{all_relayed, answered_line, answered_nothing, unheard_relayed, unmade_relayed, untold_relayed}, specs.Relays.answer}
+use Rattle.{sim_talk.specs.Talks.{Extends, heard, Hears}, std.proofs.Common.{ap, arith, Err, false, List, Ok, rules, subst, sym, true, ℕ, [], ◌∙◌, ◌∷◌, ◌≡◌}}
 use Rattle.sim_talk.specs.declared.fault.TalkFault.TheVariants as ends
 use Rattle.sim_live.proofs.relaying.answer_all.Goals as goal
 

@@ -1,7 +1,6 @@
 use Rattle.sim_merge.proofs.chains.first_orphan.Goals as goal
-use Rattle.sim_merge.proofs.Common.{[], ap, arith, bare, below_more, false, get_or, get_or-map, is_orphan, length, length-map, map, None, Origin, origin_of}
-use Rattle.sim_merge.proofs.Common.{origins_of, string_bytes, sym, ◌<◌, ◌∙◌, ◌≡◌}
-use Rattle.sim_merge.proofs.KeepingLemmas.{position-at, position-none}
+use Rattle.sim_merge.proofs.Common.{ap, arith, bare, below_more, false, get_or, get_or-map, is_orphan, length, length-map, map, None, Origin, origin_of}
+use Rattle.sim_merge.proofs.{Common.{origins_of, string_bytes, sym, [], ◌<◌, ◌∙◌, ◌≡◌}, KeepingLemmas.{position-at, position-none}}
 
 pub returns-then-is_orphan : goal.returns-then-is_orphan
 returns-then-is_orphan c =

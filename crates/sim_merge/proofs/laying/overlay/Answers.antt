@@ -1,7 +1,6 @@
 use Rattle.sim_merge.proofs.laying.overlay.Goals as goal
-use Rattle.sim_merge.proofs.RefusalLemmas.{has-laid, is-refused}
-use Rattle.sim_merge.proofs.{ChildrenLemmas.IfBadOp-weaker, Common.IfBadOp, Common.IsRefused, Common.Some, Common.laid, Common.node_of, Common.rules}
-use Rattle.sim_merge.proofs.{Common.◌∙◌, FitLemmas.laid-resolved, FitLemmas.laid-unmarked, FitLemmas.mark_of-layable, FitLemmas.there-resolved}
+use Rattle.sim_merge.proofs.{ChildrenLemmas.IfBadOp-weaker, Common.{IfBadOp, IsRefused, laid, node_of, rules, Some, ◌∙◌}}
+use Rattle.sim_merge.proofs.{FitLemmas.{laid-resolved, laid-unmarked, mark_of-layable, there-resolved}, RefusalLemmas.{has-laid, is-refused}}
 
 pub returns-clause-resolved : goal.returns-clause-resolved
 returns-clause-resolved c =

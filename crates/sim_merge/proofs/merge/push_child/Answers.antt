@@ -1,5 +1,4 @@
-use Rattle.sim_merge.proofs.ChildrenLemmas.{nodes_of-push}
-use Rattle.sim_merge.proofs.Common.{ap, child, followed_by, no_children, node_of, nodes_of, ◌∙◌}
+use Rattle.sim_merge.proofs.{ChildrenLemmas.nodes_of-push, Common.{ap, child, followed_by, no_children, node_of, nodes_of, ◌∙◌}}
 
 pub returns : Rattle.sim_merge.proofs.merge.push_child.Goals.returns
 returns c =

@@ -1,5 +1,4 @@
-use Rattle.sim_merge.proofs.Common.{◌+ℤ◌, ap, function_of, number_by, product, sym, ◌∙◌}
-use Rattle.sim_merge.proofs.OperationLemmas.{in_range-SomeIff, number_by-some}
+use Rattle.sim_merge.proofs.{Common.{ap, function_of, number_by, product, sym, ◌+ℤ◌, ◌∙◌}, OperationLemmas.{in_range-SomeIff, number_by-some}}
 
 pub returns-in-Sum : Rattle.sim_merge.proofs.operation.number_of.Goals.returns-in-Sum
 returns-in-Sum c =

@@ -1,5 +1,4 @@
-use Rattle.sim_merge.proofs.Common.{◌≡◌, false, not, ◌&&◌, bytes_eq, ap, contains_text, list_any, sym, ◌∙◌}
-use Rattle.sim_merge.proofs.LackingLemmas.{lacking_put, lacking_rest}
+use Rattle.sim_merge.proofs.{Common.{ap, bytes_eq, contains_text, false, list_any, not, sym, ◌&&◌, ◌∙◌, ◌≡◌}, LackingLemmas.{lacking_put, lacking_rest}}
 
 pub returns-else-take_word-clause-found : Rattle.sim_merge.proofs.words.include.Goals.returns-else-take_word-clause-found
 returns-else-take_word-clause-found c = λ more tells.

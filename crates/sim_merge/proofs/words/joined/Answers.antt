@@ -1,5 +1,4 @@
-use Rattle.sim_merge.proofs.Common.{◌∷◌, ◌++◌, if◌then◌else◌, ◌==◌, string_bytes, ap, sym, ◌∙◌}
-use Rattle.sim_merge.proofs.WordLemmas.{joined-next}
+use Rattle.sim_merge.proofs.{Common.{ap, if◌then◌else◌, string_bytes, sym, ◌++◌, ◌==◌, ◌∙◌, ◌∷◌}, WordLemmas.joined-next}
 
 pub loop-place-preserved : Rattle.sim_merge.proofs.words.joined.Goals.loop-place-preserved
 loop-place-preserved c =

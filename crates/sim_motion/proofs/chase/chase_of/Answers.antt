@@ -1,6 +1,5 @@
 -- The target stands inside, and its square is tested against a range within the limits.
-use Rattle.{sim_base.specs.Rows.arms_of, sim_plans.proofs.Bounds.arms_limited, sim_plans.proofs.Bounds.found_inside, sim_plans.proofs.Bounds.found_placed}
-use Rattle.std.proofs.Common.{◌≡◌, Some, rules, sym}
+use Rattle.{sim_base.specs.Rows.arms_of, sim_plans.proofs.Bounds.{arms_limited, found_inside, found_placed}, std.proofs.Common.{rules, Some, sym, ◌≡◌}}
 use Rattle.sim_motion.proofs.chase.chase_of.Goals as goal
 
 pub is_near-requires-clause-from : goal.is_near-requires-clause-from

@@ -1,7 +1,6 @@
 -- Bytes are a text where they are UTF-8.
-use Rattle.sim_packed.specs.Files.{text_in}
-use Rattle.std.proofs.Common.{Bool, false, if◌then◌else◌, List, None, refl, Some, true, ℕ, ◌≡◌}
-use Rattle.std.{proofs.lemmas.Str.IsUtf8-from_is_utf8, proofs.lemmas.Str.is_utf8-from_IsUtf8, specs.Str.IsUtf8, specs.Str.is_utf8}
+use Rattle.{sim_packed.specs.Files.text_in, std.proofs.Common.{Bool, false, if◌then◌else◌, List, None, refl, Some, true, ℕ, ◌≡◌}}
+use Rattle.std.{proofs.lemmas.Str.{is_utf8-from_IsUtf8, IsUtf8-from_is_utf8}, specs.Str.{is_utf8, IsUtf8}}
 
 text_is : (text bytes : List ℕ) → text ≡ bytes → IsUtf8 bytes → Some text ≡ text_in bytes
 text_is text bytes same utf8 = rw (same, is_utf8-from_IsUtf8 bytes utf8) refl

@@ -1,6 +1,5 @@
 use Rattle.sim_path.proofs.live.first_live.Goals as goal
-use Rattle.sim_path.proofs.{AwaySteps.one-more, Common.Cell, Common.IsTightStep, Common.arith, Common.field_of_grid, Common.true, Common.ℕ, Common.◌≡◌}
-use Rattle.sim_path.specs.Questions.{is_dead, slope_of}
+use Rattle.sim_path.{proofs.{AwaySteps.one-more, Common.{arith, Cell, field_of_grid, IsTightStep, true, ℕ, ◌≡◌}}, specs.Questions.{is_dead, slope_of}}
 
 pub loop-which-init : goal.loop-which-init
 loop-which-init c = λ j p lt t. absurd (omega (arith, lt))

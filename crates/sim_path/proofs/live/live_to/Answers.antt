@@ -1,8 +1,7 @@
 use Rattle.sim_path.proofs.live.live_to.Goals as goal
 use Rattle.sim_path.proofs.Common.{ap, Cell, false, field_of_grid, is_free, IsFirstTight, List, Option, rules, same_cell, same_cell-self, same_cell-true, subst}
-use Rattle.sim_path.proofs.Common.{sym, true, true≢false, ◌∙◌, ◌≡◌, ◌≢◌}
-use Rattle.sim_path.proofs.TightTrails.{at-further, chain-done, IsAt, live-begins, live-dead}
-use Rattle.sim_path.specs.{Questions.is_dead, Questions.marked_in, Questions.slope_of, SlopeLaws.slope-floor}
+use Rattle.sim_path.proofs.{Common.{sym, true, true≢false, ◌∙◌, ◌≡◌, ◌≢◌}, TightTrails.{at-further, chain-done, IsAt, live-begins, live-dead}}
+use Rattle.sim_path.specs.{Questions.{is_dead, marked_in, slope_of}, SlopeLaws.slope-floor}
 
 pub loop-init : goal.loop-init
 loop-init c =

@@ -1,5 +1,4 @@
-use Rattle.sim_path.proofs.{AwaySteps.spread-one, Common.Cell, Common.List, Common.size_of_marks, Common.subst, Common.sym}
-use Rattle.sim_path.specs.Questions.{IsSpread}
+use Rattle.sim_path.{proofs.{AwaySteps.spread-one, Common.{Cell, List, size_of_marks, subst, sym}}, specs.Questions.IsSpread}
 
 pub returns-in_ok-push-clause-spread : Rattle.sim_path.proofs.live.mark.Goals.returns-in_ok-push-clause-spread
 returns-in_ok-push-clause-spread c =

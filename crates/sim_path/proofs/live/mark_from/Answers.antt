@@ -1,7 +1,6 @@
 use Rattle.sim_path.proofs.live.mark_from.Goals as goal
-use Rattle.sim_path.proofs.{AwaySteps.spread-more, AwaySteps.spread-past, Common.Cell, Common.IsOnGround, Common.Size, Common.field_of_grid, Common.marked_in}
-use Rattle.sim_path.proofs.{Common.subst, Common.sym, Common.true, Common.◌≡◌, live.mark_from.Goals.in-Some+in_ok-mark, live.mark_from.Goals.in_default}
-use Rattle.{sim_path.specs.Questions.IsSpread, sim_search.specs.Rows.number_in}
+use Rattle.sim_path.proofs.{AwaySteps.{spread-more, spread-past}, Common.{Cell, field_of_grid, IsOnGround, marked_in, Size, subst, sym, true, ◌≡◌}}
+use Rattle.{sim_path.{proofs.live.mark_from.Goals.{in-Some+in_ok-mark, in_default}, specs.Questions.IsSpread}, sim_search.specs.Rows.number_in}
 
 pub mark-requires-clause-on : goal.mark-requires-clause-on
 mark-requires-clause-on c = λ v h. subst (λ (s : Size). IsOnGround s v) (sym c.loop-which.invariant.spread.size_is) (c.loop-which.invariant.spread.on v h)

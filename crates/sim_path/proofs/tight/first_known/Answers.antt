@@ -1,5 +1,4 @@
-use Rattle.sim_path.proofs.AwaySteps.{one-more}
-use Rattle.sim_path.proofs.Common.{◌≡◌, ℕ, true, arith, Cell, field_of_grid, IsTightStep, marked_in}
+use Rattle.sim_path.proofs.{AwaySteps.one-more, Common.{arith, Cell, field_of_grid, IsTightStep, marked_in, true, ℕ, ◌≡◌}}
 use Rattle.sim_path.proofs.tight.first_known.Goals as goal
 
 pub loop-which-init : goal.loop-which-init

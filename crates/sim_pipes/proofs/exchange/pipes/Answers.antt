@@ -1,6 +1,5 @@
 -- One pipe more is empty.
-use Rattle.std.proofs.Common.{length-append}
-use Rattle.sim_pipes.proofs.{Common.[], Common.◌∷◌, Common.arith, Conveying.one_more_empty}
+use Rattle.{sim_pipes.proofs.{Common.{arith, [], ◌∷◌}, Conveying.one_more_empty}, std.proofs.Common.length-append}
 
 pub loop-preserved : Rattle.sim_pipes.proofs.exchange.pipes.Goals.loop-preserved
 loop-preserved c = record {

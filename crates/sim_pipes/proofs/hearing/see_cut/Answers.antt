@@ -1,7 +1,6 @@
 -- The posts are what the server says to each client.
 use Rattle.sim_pipes.proofs.hearing.see_cut.Goals as goal
-use Rattle.sim_pipes.proofs.Telling.{have_frames, makes_small, sends, to_clients}
-use Rattle.sim_pipes.proofs.{Common.All, Common.Cut, Common.List, Common.Ok, Common.PostOf, Common.subst, Common.sym, Common.ℕ, Common.◌<◌, Frames.on_ok}
+use Rattle.sim_pipes.proofs.{Common.{All, Cut, List, Ok, PostOf, subst, sym, ℕ, ◌<◌}, Frames.on_ok, Telling.{have_frames, makes_small, sends, to_clients}}
 
 pub returns-in_err-posts-clause-small : goal.returns-in_err-posts-clause-small
 returns-in_err-posts-clause-small c = makes_small c.args.server.now (Cut c.args.client) c.cut.result c.cut.new.self c.requires.small tt c.cut.ensures.made

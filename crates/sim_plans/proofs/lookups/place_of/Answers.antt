@@ -1,7 +1,6 @@
 -- The first row has the least id, the ids ascend, and the closure gives the id of a row.
-use Rattle.{sim_base.proofs.RowPlaces.row_missing, std.proofs.lemmas.List.Sorted.answers_always, std.specs.List.HoldsAt}
-use Rattle.sim_plans.proofs.{Common.ranked, Common.Row, Common.rules, Common.sym, Places.no_row, Places.none_below, Places.row_at}
-use Rattle.std.proofs.Common.{◌≡◌, ℕ, ◌-◌, ◌<◌, length}
+use Rattle.{sim_base.proofs.RowPlaces.row_missing, sim_plans.proofs.{Common.{ranked, Row, rules, sym}, Places.{no_row, none_below, row_at}}}
+use Rattle.std.{proofs.{Common.{length, ℕ, ◌-◌, ◌<◌, ◌≡◌}, lemmas.List.Sorted.answers_always}, specs.List.HoldsAt}
 use Rattle.sim_plans.proofs.lookups.place_of.Goals as goal
 
 pub returns-then-id-first : goal.returns-then-id-first

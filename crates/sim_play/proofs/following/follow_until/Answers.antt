@@ -1,8 +1,7 @@
 -- One turn more is played, and followed.
 use Rattle.sim_play.proofs.following.follow_until.Goals as goal
-use Rattle.sim_board.proofs.Keeping.{kept_on}
-use Rattle.sim_play.proofs.Common.{ap, arith, from, IsValid, later_of, own_turns, refl, rules, Setup, State, subst, suc, sym, vision_after, vision_next, ℕ, ◌+◌}
-use Rattle.sim_play.proofs.{Common.◌-◌, Common.◌∙◌, Common.◌≡◌, Past.followed_more, Playing.next_number, Playing.one_turn_more}
+use Rattle.{sim_board.proofs.Keeping.kept_on, sim_play.proofs.Common.{ap, arith, from, IsValid, later_of, own_turns, refl, rules, Setup, State, subst, suc}}
+use Rattle.sim_play.proofs.{Common.{sym, vision_after, vision_next, ℕ, ◌+◌, ◌-◌, ◌∙◌, ◌≡◌}, Past.followed_more, Playing.{next_number, one_turn_more}}
 
 pub loop-number-init : goal.loop-number-init
 loop-number-init g c =

@@ -1,8 +1,7 @@
 -- A cell more is counted, if it is rooted; and all cells of both lists, side by side, are at the end.
-use Rattle.std.proofs.Common.{◌≡◌, ℕ, ◌+◌, ◌<◌, ◌≤◌, Bool, true, false, ◌==◌, ◌&&◌, List, get_or, length, take, refl, ap, arith, sym, ◌∙◌}
-use Rattle.std.proofs.lemmas.{List.take_all, List.Sums.sum_by_more, Slice.Zip.get_or-zip, Slice.Zip.length-zip}
-use Rattle.std.specs.Prelude.{count_by, if◌then◌else◌, zip}
-use Rattle.sim_play.proofs.holdings.held_rooted.Goals.{then-rooted-cell, else-rooted-cell}
+use Rattle.sim_play.proofs.holdings.held_rooted.Goals.{else-rooted-cell, then-rooted-cell}
+use Rattle.std.proofs.Common.{ap, arith, Bool, false, get_or, length, List, refl, sym, take, true, ℕ, ◌&&◌, ◌+◌, ◌<◌, ◌==◌, ◌∙◌, ◌≡◌, ◌≤◌}
+use Rattle.std.{proofs.lemmas.{List.{Sums.sum_by_more, take_all}, Slice.Zip.{get_or-zip, length-zip}}, specs.Prelude.{count_by, if◌then◌else◌, zip}}
 
 -- a cell counts by its holder where it is rooted, and else not
 if_rooted : (his rooted : Bool) → rooted ≡ true → ◌≡◌ {A = ℕ} (if his && rooted then 1 else 0) (if his then 1 else 0)

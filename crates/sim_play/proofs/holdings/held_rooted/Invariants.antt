@@ -1,6 +1,5 @@
 -- The cells so far are counted, as cells of both lists side by side.
-use Rattle.std.proofs.Common.{◌≡◌, ℕ, Bool, ◌<◌, ◌==◌, ◌&&◌, get_or, take}
-use Rattle.std.specs.Prelude.{count_by, zip}
+use Rattle.std.{proofs.Common.{Bool, get_or, take, ℕ, ◌&&◌, ◌<◌, ◌==◌, ◌≡◌}, specs.Prelude.{count_by, zip}}
 
 abbrev pub invariant-loop-cell : Rattle.sim_play.proofs.holdings.held_rooted.Given.invariant-loop-cell
 invariant-loop-cell l =

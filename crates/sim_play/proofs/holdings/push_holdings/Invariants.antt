@@ -1,6 +1,5 @@
 -- There is a line for each player so far.
-use Rattle.sim_play.proofs.Common.{◌≡◌, ◌-◌, ◌≤◌, ◌++◌, string_bytes, flat_map, range_with_len}
-use Rattle.sim_play.specs.Realms.{player_line}
+use Rattle.sim_play.{proofs.Common.{flat_map, range_with_len, string_bytes, ◌++◌, ◌-◌, ◌≡◌, ◌≤◌}, specs.Realms.player_line}
 
 abbrev pub invariant-loop-player : Rattle.sim_play.proofs.holdings.push_holdings.Given.invariant-loop-player
 invariant-loop-player l =

@@ -1,7 +1,6 @@
 -- One turn more is played, and has its line.
-use Rattle.sim_play.proofs.{Common.turn_line, Common.turn_lines, Common.◌∙◌, PlayLines.lines_more, Playing.next_number, Playing.one_turn_more}
-use Rattle.sim_play.proofs.Common.{◌≡◌, ℕ, suc, ◌+◌, ◌-◌, ◌++◌, string_bytes, codes, ap, arith, digest, from, IsValid, own_turns, Setup, State, subst, sym}
-use Rattle.sim_board.proofs.Keeping.{kept_on}
+use Rattle.{sim_board.proofs.Keeping.kept_on, sim_play.proofs.Common.{ap, arith, codes, digest, from, IsValid, own_turns, Setup, State, string_bytes, subst}}
+use Rattle.sim_play.proofs.{Common.{suc, sym, turn_line, turn_lines, ℕ, ◌++◌, ◌+◌, ◌-◌, ◌∙◌, ◌≡◌}, Playing.{next_number, one_turn_more}, PlayLines.lines_more}
 
 pub loop-turn-preserved : Rattle.sim_play.proofs.lines.push_turns.Goals.loop-turn-preserved
 loop-turn-preserved g c =

@@ -1,9 +1,8 @@
 -- The board was started, and its first state has its digest; then one turn more is played, and its state has one too.
-use Rattle.sim_play.proofs.{LogTurns.digests_more, LogTurns.state_more, LogTurns.turn_at, Starting.started_valid}
-use Rattle.sim_play.proofs.Common.{digest, IsOrderOf, IsValid, PlayerCommand, Setup, setup_in, State, state_after, state_in, subst, turn, ◌∙◌}
-use Rattle.sim_play.proofs.Common.{◌≡◌, ℕ, ◌+◌, ◌<◌, List, [], ◌∷◌, ◌++◌, length, take, All, refl, ap, arith, rules, sym}
+use Rattle.{sim_board.proofs.Counting.most_kept, sim_play.proofs.Common.{All, ap, arith, digest, IsOrderOf, IsValid, length, List, PlayerCommand, refl, rules}}
+use Rattle.sim_play.proofs.Common.{Setup, setup_in, State, state_after, state_in, subst, sym, take, turn, ℕ, [], ◌++◌, ◌+◌, ◌<◌, ◌∙◌, ◌∷◌, ◌≡◌}
+use Rattle.sim_play.proofs.{LogTurns.{digests_more, state_more, turn_at}, Starting.started_valid}
 use Rattle.sim_play.proofs.logs.start_turns.Goals as goal
-use Rattle.sim_board.proofs.Counting.{most_kept}
 
 pub loop-commands-init : goal.loop-commands-init
 loop-commands-init g c =

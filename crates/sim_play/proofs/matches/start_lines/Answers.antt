@@ -1,6 +1,5 @@
 -- The board was started.
-use Rattle.sim_play.proofs.Common.{◌≡◌, ℕ, List, ◌++◌, OnOk, string_bytes, subst}
-use Rattle.sim_play.proofs.Starting.{started_lines, started_valid}
+use Rattle.sim_play.proofs.{Common.{List, OnOk, string_bytes, subst, ℕ, ◌++◌, ◌≡◌}, Starting.{started_lines, started_valid}}
 
 pub push_turns-requires : Rattle.sim_play.proofs.matches.start_lines.Goals.push_turns-requires
 push_turns-requires g c = record {

@@ -1,6 +1,5 @@
 -- The board is of the match.
-use Rattle.sim_play.proofs.Common.{IfOk, Setup, sight_file, string_bytes, subst, ◌≡◌}
-use Rattle.sim_play.specs.Lines.{sight_text}
+use Rattle.sim_play.{proofs.Common.{IfOk, Setup, sight_file, string_bytes, subst, ◌≡◌}, specs.Lines.sight_text}
 
 pub returns-clause-text : Rattle.sim_play.proofs.sights.sight_at.Goals.returns-clause-text
 returns-clause-text g c =

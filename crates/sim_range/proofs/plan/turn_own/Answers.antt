@@ -1,8 +1,7 @@
 -- One id more has come or gone.
 use Rattle.sim_range.proofs.plan.turn_own.Goals as goal
-use Rattle.sim_range.proofs.Common.{IsStrictlyIncreasing, Some, ap, arith, fact_with, get_or, ids_of, sees, subst, sym, take, take_all, turned, ◌∙◌}
-use Rattle.sim_range.proofs.plan.turn_own.Goals.{in-Ok+in_ok-make_room, in_default}
-use Rattle.sim_range.proofs.{Seeing.seen_is, Watching.mixed_all, Watching.mixed_up, Watching.next_mixed, Watching.same_mixed}
+use Rattle.sim_range.proofs.Common.{ap, arith, fact_with, get_or, ids_of, IsStrictlyIncreasing, sees, Some, subst, sym, take, take_all, turned, ◌∙◌}
+use Rattle.sim_range.proofs.{plan.turn_own.Goals.{in-Ok+in_ok-make_room, in_default}, Seeing.seen_is, Watching.{mixed_all, mixed_up, next_mixed, same_mixed}}
 
 pub turn-requires-clause-ascending : goal.turn-requires-clause-ascending
 turn-requires-clause-ascending c =

@@ -1,7 +1,6 @@
 -- One sight more is changed, or nobody has that id.
-use Rattle.sim_range.proofs.{Common.is_seen, Common.subst, Common.sym, Common.take_all, Common.◌∙◌}
-use Rattle.sim_range.proofs.sights.turn_all.Goals.{in-Ok, in_default}
-use Rattle.sim_range.proofs.Common.{◌<◌, List, length, get_or, vec_items, vec_len, vec_capacity, refl, ap, arith, Fact, fact_with, ids_at, ids_of, Sight, sight}
+use Rattle.sim_range.proofs.Common.{ap, arith, Fact, fact_with, get_or, ids_at, ids_of, is_seen, length, List, refl, Sight, sight, subst, sym, take_all}
+use Rattle.sim_range.proofs.{Common.{vec_capacity, vec_items, vec_len, ◌<◌, ◌∙◌}, sights.turn_all.Goals.{in-Ok, in_default}}
 use Rattle.sim_range.proofs.Watching.{all_turned, long_as, next_room, next_seen, read_map, ready_room, ready_up, same_room, same_seen}
 use Rattle.sim_range.proofs.sights.turn_all.Goals as goal
 

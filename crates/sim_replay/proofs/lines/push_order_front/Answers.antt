@@ -1,6 +1,5 @@
 -- The three parts stand behind the old text.
-use Rattle.sim_replay.proofs.Common.{◌++◌, append_assoc, codes, decimal}
-use Rattle.std.specs.Prelude.{string_bytes}
+use Rattle.{sim_replay.proofs.Common.{append_assoc, codes, decimal, ◌++◌}, std.specs.Prelude.string_bytes}
 
 pub returns : Rattle.sim_replay.proofs.lines.push_order_front.Goals.returns
 returns c =

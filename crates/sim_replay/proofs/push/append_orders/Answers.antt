@@ -1,6 +1,5 @@
 -- One line more stands behind the old bytes, or they are kept.
-use Rattle.{sim_base.proofs.AppendedTexts.take-appended_more, std.specs.Prelude.OnErr}
-use Rattle.sim_replay.proofs.{Common.Err, Common.Ok, Common.Result, Pushed.next_order}
+use Rattle.{sim_base.proofs.AppendedTexts.take-appended_more, sim_replay.proofs.{Common.{Err, Ok, Result}, Pushed.next_order}, std.specs.Prelude.OnErr}
 
 on_err : {T E P : Type 0} (r : Result T E) → P → OnErr r P
 on_err (Ok x) p = tt

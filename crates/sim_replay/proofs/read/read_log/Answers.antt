@@ -1,6 +1,5 @@
 -- The first line is the header, or nothing is read.
-use Rattle.sim_replay.proofs.Common.{bytes_eq-Decides, Meets, subst, sym, ◌∙◌}
-use Rattle.sim_replay.proofs.Parts.{headed_lines, no_lines, other_lines}
+use Rattle.sim_replay.proofs.{Common.{bytes_eq-Decides, Meets, subst, sym, ◌∙◌}, Parts.{headed_lines, no_lines, other_lines}}
 use Rattle.sim_replay.proofs.read.read_log.Goals as goal
 
 pub returns-in_default-clause-meets : goal.returns-in_default-clause-meets

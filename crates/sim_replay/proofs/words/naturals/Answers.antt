@@ -1,6 +1,5 @@
 -- Nothing is found yet.
-use Rattle.sim_replay.proofs.Common.{◌≡◌, ℕ, List, [], ap, map, rules, word_text, ◌∙◌}
-use Rattle.sim_replay.proofs.Naturals.{behind_nothing, naturals_behind}
+use Rattle.sim_replay.proofs.{Common.{ap, List, map, rules, word_text, ℕ, [], ◌∙◌, ◌≡◌}, Naturals.{behind_nothing, naturals_behind}}
 
 pub loop-rest-init : Rattle.sim_replay.proofs.words.naturals.Goals.loop-rest-init
 loop-rest-init c =

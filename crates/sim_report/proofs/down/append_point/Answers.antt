@@ -1,6 +1,5 @@
 -- The point stands behind the word.
-use Rattle.sim_report.proofs.{Common.◌++◌, Common.◌≡◌, Common.string_bytes, Kept.appended, Kept.kept_in_parts}
-use Rattle.sim_report.specs.Show.{point_text}
+use Rattle.sim_report.{proofs.{Common.{string_bytes, ◌++◌, ◌≡◌}, Kept.{appended, kept_in_parts}}, specs.Show.point_text}
 
 pub returns : Rattle.sim_report.proofs.down.append_point.Goals.returns
 returns c =

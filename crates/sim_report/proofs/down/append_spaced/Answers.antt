@@ -1,6 +1,5 @@
 -- The command stands behind the space.
-use Rattle.sim_report.proofs.Common.{◌++◌, ◌≡◌, codes, string_bytes}
-use Rattle.sim_report.{proofs.Kept.appended, proofs.Kept.kept_in_parts, specs.Downs.command_text}
+use Rattle.sim_report.{proofs.{Common.{codes, string_bytes, ◌++◌, ◌≡◌}, Kept.{appended, kept_in_parts}}, specs.Downs.command_text}
 
 pub returns : Rattle.sim_report.proofs.down.append_spaced.Goals.returns
 returns c =

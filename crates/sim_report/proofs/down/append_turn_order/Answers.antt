@@ -1,6 +1,5 @@
 -- What is commanded stands behind the word and the turn.
-use Rattle.sim_report.proofs.Common.{◌++◌, ◌≡◌, codes, decimal, string_bytes}
-use Rattle.sim_report.{proofs.Kept.appended_pair, proofs.Kept.kept_in_parts, specs.Downs.order_text}
+use Rattle.sim_report.{proofs.{Common.{codes, decimal, string_bytes, ◌++◌, ◌≡◌}, Kept.{appended_pair, kept_in_parts}}, specs.Downs.order_text}
 
 pub returns : Rattle.sim_report.proofs.down.append_turn_order.Goals.returns
 returns c =

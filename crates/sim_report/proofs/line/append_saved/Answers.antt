@@ -1,6 +1,5 @@
 -- The word, the numbers and the digest stand one behind another.
-use Rattle.sim_report.proofs.{Common.◌++◌, Common.◌≡◌, Common.codes, Common.string_bytes, Kept.appended, Kept.kept_in_parts}
-use Rattle.sim_report.specs.Lines.{line_end, spaced_number}
+use Rattle.sim_report.{proofs.{Common.{codes, string_bytes, ◌++◌, ◌≡◌}, Kept.{appended, kept_in_parts}}, specs.Lines.{line_end, spaced_number}}
 
 pub returns : Rattle.sim_report.proofs.line.append_saved.Goals.returns
 returns c =

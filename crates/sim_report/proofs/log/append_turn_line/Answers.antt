@@ -1,6 +1,5 @@
 -- The parts of the line stand behind the old text.
-use Rattle.std.{proofs.Common.append_assoc, proofs.Common.◌++◌, specs.Prelude.codes, specs.Prelude.string_bytes}
-use Rattle.sim_report.specs.Lines.{spaced_number}
+use Rattle.{sim_report.specs.Lines.spaced_number, std.{proofs.Common.{append_assoc, ◌++◌}, specs.Prelude.{codes, string_bytes}}}
 
 pub returns : Rattle.sim_report.proofs.log.append_turn_line.Goals.returns
 returns c =

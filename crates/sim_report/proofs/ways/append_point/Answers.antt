@@ -1,6 +1,5 @@
 -- The point stands behind the space.
-use Rattle.sim_report.proofs.Common.{◌++◌, ◌≡◌, codes, string_bytes}
-use Rattle.sim_report.{proofs.Kept.appended, proofs.Kept.kept_in_parts, specs.Show.point_text}
+use Rattle.sim_report.{proofs.{Common.{codes, string_bytes, ◌++◌, ◌≡◌}, Kept.{appended, kept_in_parts}}, specs.Show.point_text}
 
 pub returns : Rattle.sim_report.proofs.ways.append_point.Goals.returns
 returns c =

@@ -1,8 +1,7 @@
 use Rattle.sim_search.proofs.drain.drain.Goals as goal
 use Rattle.sim_search.proofs.Common.{arith, at_drop_more, Bool, Cell, Drains, drop, drop_all, field_of_grid, get_or, known, List, Search, size_of, subst, sym}
-use Rattle.sim_search.proofs.drain.drain.Goals.{in-Some+in_ok-expand, in_default}
-use Rattle.sim_search.proofs.{Common.true≢false, Common.◌+◌, Common.◌∙◌, Common.◌∷◌, Common.◌≡◌, Draining.Draining, Draining.draining_begins}
-use Rattle.sim_search.proofs.{Draining.draining_past, Draining.draining_taken, Draining.waits-first, Rows.entry_at-there}
+use Rattle.sim_search.proofs.{Common.{true≢false, ◌+◌, ◌∙◌, ◌∷◌, ◌≡◌}, drain.drain.Goals.{in-Some+in_ok-expand, in_default}}
+use Rattle.sim_search.proofs.{Draining.{Draining, draining_begins, draining_past, draining_taken, waits-first}, Rows.entry_at-there}
 
 pub loop-cell-init : goal.loop-cell-init
 loop-cell-init g c =

@@ -1,7 +1,6 @@
-use Rattle.sim_search.proofs.Common.{◌+◌, AreMoves, Cell, field_of_grid, IfOk-from_err, Search, subst, sym, ◌∙◌}
-use Rattle.sim_search.proofs.Draining.{expanded, Expanding, expanding_begins, expanding_more, expanding_none}
-use Rattle.sim_search.proofs.{Moves.open-moves, drain.expand.Goals.else-start_open, drain.expand.Goals.then-start_open}
-use Rattle.sim_search.proofs.drain.expand.Goals.{in-Some+in_ok-lower, in_default}
+use Rattle.sim_search.proofs.Common.{AreMoves, Cell, field_of_grid, IfOk-from_err, Search, subst, sym, ◌+◌, ◌∙◌}
+use Rattle.sim_search.proofs.drain.expand.Goals.{else-start_open, in-Some+in_ok-lower, in_default, then-start_open}
+use Rattle.sim_search.proofs.{Draining.{expanded, Expanding, expanding_begins, expanding_more, expanding_none}, Moves.open-moves}
 use Rattle.sim_search.proofs.drain.expand.Goals as goal
 
 pub loop-which-init : goal.loop-which-init

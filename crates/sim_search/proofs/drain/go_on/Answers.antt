@@ -1,7 +1,6 @@
-use Rattle.sim_search.proofs.Common.{HasStopped, inl, inr, length-map, subst, sym, takens, true≢false, ◌∙◌}
-use Rattle.sim_search.proofs.Common.{ℕ, ◌*◌, ◌≤◌, not, eqb, List, refl, AreCosts, arith, Cell, cost_in, count_by-le-length, Drains, field_of_grid}
-use Rattle.sim_search.proofs.Draining.{costs-found, drains_first, ready_anew, Round, round-of, stopped}
-use Rattle.sim_search.proofs.drain.go_on.Goals.{After-emptied-spare, else-branch, then-branch}
+use Rattle.sim_search.proofs.Common.{AreCosts, arith, Cell, cost_in, count_by-le-length, Drains, eqb, field_of_grid, HasStopped, inl, inr, length-map, List}
+use Rattle.sim_search.proofs.{Common.{not, refl, subst, sym, takens, true≢false, ℕ, ◌*◌, ◌∙◌, ◌≤◌}, drain.go_on.Goals.{After-emptied-spare, else-branch}}
+use Rattle.sim_search.proofs.{drain.go_on.Goals.then-branch, Draining.{costs-found, drains_first, ready_anew, Round, round-of, stopped}}
 use Rattle.sim_search.proofs.drain.go_on.Goals as goal
 
 cells_most : (w d : ℕ) → w ≤ 256 → d ≤ 256 → w * d ≤ 65536

@@ -1,5 +1,4 @@
-use Rattle.sim_search.proofs.{Draining.ready_begins}
-use Rattle.sim_search.proofs.Common.{◌≡◌, ℕ, ap₂, Begins, Field, field_of_grid, is_open_at, IsGuide, Ready, Size, subst, sym}
+use Rattle.sim_search.proofs.{Common.{ap₂, Begins, Field, field_of_grid, is_open_at, IsGuide, Ready, Size, subst, sym, ℕ, ◌≡◌}, Draining.ready_begins}
 use Rattle.sim_search.proofs.drain.started.Goals as goal
 
 pub returns-clause-start : goal.returns-clause-start

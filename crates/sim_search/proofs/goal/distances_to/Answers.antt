@@ -1,6 +1,5 @@
 -- The costs from an open cell are the distances to it.
-use Rattle.sim_search.proofs.{Common.Cell, Common.cost_in, Common.field_of_grid, Guiding.numbers-distances, Guiding.same-distances}
-use Rattle.sim_search.specs.Rows.{number_in, number_of}
+use Rattle.sim_search.{proofs.{Common.{Cell, cost_in, field_of_grid}, Guiding.{numbers-distances, same-distances}}, specs.Rows.{number_in, number_of}}
 
 pub returns-clause-distances : Rattle.sim_search.proofs.goal.distances_to.Goals.returns-clause-distances
 returns-clause-distances c =

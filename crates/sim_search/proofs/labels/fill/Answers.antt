@@ -1,6 +1,5 @@
-use Rattle.sim_search.proofs.Common.{inr, length-append, nil_from_length, subst, sym, Table, unlabelled, work_left, ◌∙◌}
-use Rattle.sim_search.proofs.Common.{◌≡◌, ◌+◌, ◌⊎◌, List, [], ◌∷◌, ◌++◌, length, is_none, Contains, count_by, refl, ap, arith, Cell, field_of_grid, Flood, inl}
-use Rattle.sim_search.proofs.Floods.{popped, popped-label}
+use Rattle.sim_search.proofs.Common.{ap, arith, Cell, Contains, count_by, field_of_grid, Flood, inl, inr, is_none, length, length-append, List, nil_from_length}
+use Rattle.sim_search.proofs.{Common.{refl, subst, sym, Table, unlabelled, work_left, [], ◌++◌, ◌+◌, ◌∙◌, ◌∷◌, ◌≡◌, ◌⊎◌}, Floods.{popped, popped-label}}
 use Rattle.sim_search.proofs.labels.fill.Goals as goal
 
 popped_less : (old new : Flood) (from : Cell) → new.table ≡ old.table → old.waiting.items ≡ new.waiting.items ++ from ∷ [] → work_left new + 1 ≡ work_left old

@@ -1,5 +1,4 @@
-use Rattle.sim_search.proofs.Common.{OnOk, Ok, Err, Result, ap, field_of_grid, IfOk-from_err, place_of, Size, ◌∙◌}
-use Rattle.sim_search.proofs.Floods.{seed-done, seed-floods}
+use Rattle.sim_search.proofs.{Common.{ap, Err, field_of_grid, IfOk-from_err, Ok, OnOk, place_of, Result, Size, ◌∙◌}, Floods.{seed-done, seed-floods}}
 use Rattle.sim_search.proofs.labels.flood_from.Goals as goal
 
 both_ok : {T E : Type 0} {P Q R : Type 0} (r : Result T E) → (P → Q → R) → OnOk r P → OnOk r Q → OnOk r R

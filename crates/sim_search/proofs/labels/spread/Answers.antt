@@ -1,6 +1,5 @@
-use Rattle.sim_search.proofs.Common.{◌+◌, field_of_grid, Flood, neighbour-on, subst, sym, ◌∙◌}
-use Rattle.sim_search.proofs.Floods.{spread-done, Spreading, spreading_begins, spreading_more, spreading_none}
-use Rattle.sim_search.proofs.labels.spread.Goals.{in-Some+in_ok-mark, in_default}
+use Rattle.sim_search.proofs.{Common.{field_of_grid, Flood, neighbour-on, subst, sym, ◌+◌, ◌∙◌}, Floods.spread-done}
+use Rattle.sim_search.proofs.{Floods.{Spreading, spreading_begins, spreading_more, spreading_none}, labels.spread.Goals.{in-Some+in_ok-mark, in_default}}
 use Rattle.sim_search.proofs.labels.spread.Goals as goal
 
 pub loop-which-init : goal.loop-which-init

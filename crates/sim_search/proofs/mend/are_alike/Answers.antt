@@ -1,6 +1,5 @@
 -- The cell in one direction more has no other label, or the answer is no.
-use Rattle.sim_search.proofs.Common.{◌≡◌, ℕ, suc, ◌+◌, ◌<◌, ◌⊎◌, ap, arith, Cell, eq-or-lt_of_le, inl, inr, neighbour, Some, ◌∙◌}
-use Rattle.sim_search.specs.Floods.{label_in}
+use Rattle.sim_search.{proofs.Common.{ap, arith, Cell, eq-or-lt_of_le, inl, inr, neighbour, Some, suc, ℕ, ◌+◌, ◌<◌, ◌∙◌, ◌≡◌, ◌⊎◌}, specs.Floods.label_in}
 
 pub loop-which-preserved : Rattle.sim_search.proofs.mend.are_alike.Goals.loop-which-preserved
 loop-which-preserved c = λ j b n lt e h. by j b n e h (eq-or-lt_of_le lt)

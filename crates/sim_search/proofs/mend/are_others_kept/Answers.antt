@@ -1,6 +1,5 @@
 -- Without a rim there is nothing to join.
-use Rattle.sim_search.{proofs.Added.none_listed, proofs.Common.inl, proofs.Common.inr, specs.Floods.IsNotFirst, specs.Floods.label_in}
-use Rattle.std.proofs.lemmas.List.Elements.{All-contains}
+use Rattle.{sim_search.{proofs.{Added.none_listed, Common.{inl, inr}}, specs.Floods.{IsNotFirst, label_in}}, std.proofs.lemmas.List.Elements.All-contains}
 
 pub returns-then-is_empty : Rattle.sim_search.proofs.mend.are_others_kept.Goals.returns-then-is_empty
 returns-then-is_empty c = λ _. record {

@@ -1,6 +1,5 @@
 -- One cell more is not the first of its region, or the answer is no.
-use Rattle.sim_search.{proofs.Added.gone_through, specs.Floods.IsNotFirst, specs.Floods.label_in}
-use Rattle.std.proofs.lemmas.List.Elements.{All-more}
+use Rattle.{sim_search.{proofs.Added.gone_through, specs.Floods.{IsNotFirst, label_in}}, std.proofs.lemmas.List.Elements.All-more}
 
 pub loop-cell-preserved : Rattle.sim_search.proofs.mend.is_none_first.Goals.loop-cell-preserved
 loop-cell-preserved c = All-more (IsNotFirst c.args.grid.now.size (label_in c.args.labels.now)) c.args.cells.now c.loop-cell.cell-index

@@ -1,9 +1,8 @@
 -- The labels of all other cells are still right, and those that were opened have theirs.
 use Rattle.sim_search.proofs.mend.mend_opened.Goals as goal
-use Rattle.sim_search.proofs.Common.{All-weaker, AreLabels, Bool, Cell, Contains, Contains-get_or, field_of_grid, get_or, inl, inr, is_open_at, is_some, length}
-use Rattle.sim_search.proofs.{Added.not_empty, Common.List, Common.Option, Common.Size, Common.place_of, Common.sym, Common.true≢false, Common.ℕ, Common.◌<◌}
-use Rattle.sim_search.proofs.{Common.◌≡◌, Common.◌⊎◌, Regions.IsRoot, Regions.opened-labels, Regions.root-alone, Regions.root-beside}
-use Rattle.sim_search.specs.Floods.{AreJoined, HasRoom, IsBeside, label_in, Suits}
+use Rattle.sim_search.proofs.{Added.not_empty, Common.{All-weaker, AreLabels, Bool, Cell, Contains, Contains-get_or, field_of_grid, get_or, inl, inr}}
+use Rattle.sim_search.proofs.Common.{is_open_at, is_some, length, List, Option, place_of, Size, sym, true≢false, ℕ, ◌<◌, ◌≡◌, ◌⊎◌}
+use Rattle.sim_search.{proofs.Regions.{IsRoot, opened-labels, root-alone, root-beside}, specs.Floods.{AreJoined, HasRoom, IsBeside, label_in, Suits}}
 use Rattle.std.proofs.lemmas.List.Elements.{All-contains}
 
 pub give-requires : goal.give-requires

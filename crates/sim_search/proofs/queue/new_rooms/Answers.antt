@@ -1,6 +1,5 @@
-use Rattle.sim_search.proofs.Beginning.{entry_at-all}
-use Rattle.sim_search.proofs.Common.{get_or-replicate, IfOk-from_err, length-replicate, read_entry, Size, subst, sym, ◌∙◌}
-use Rattle.sim_search.proofs.Common.{◌≡◌, ℕ, ◌*◌, ◌≤◌, false, List, [], length, get_or, nat_eq, None, All, refl, All-replicate, ap, ap₂, arith, Cell, Entry}
+use Rattle.sim_search.proofs.{Beginning.entry_at-all, Common.{All, All-replicate, ap, ap₂, arith, Cell, Entry, false, get_or, get_or-replicate, IfOk-from_err}}
+use Rattle.sim_search.proofs.Common.{length, length-replicate, List, nat_eq, None, read_entry, refl, Size, subst, sym, ℕ, [], ◌*◌, ◌∙◌, ◌≡◌, ◌≤◌}
 use Rattle.sim_search.proofs.queue.new_rooms.Goals as goal
 
 pub returns : goal.returns

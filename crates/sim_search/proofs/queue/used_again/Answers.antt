@@ -1,5 +1,4 @@
-use Rattle.sim_search.proofs.Beginning.{entry_at-all}
-use Rattle.sim_search.proofs.Common.{◌≡◌, ℕ, ◌≤◌, false, nat_eq, All, refl, All-weaker, arith, ne_eqb, size_of}
+use Rattle.sim_search.proofs.{Beginning.entry_at-all, Common.{All, All-weaker, arith, false, nat_eq, ne_eqb, refl, size_of, ℕ, ◌≡◌, ◌≤◌}}
 
 pub returns : Rattle.sim_search.proofs.queue.used_again.Goals.returns
 returns c =

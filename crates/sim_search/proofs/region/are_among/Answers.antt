@@ -1,6 +1,5 @@
 -- One cell more is found, or the answer is no.
-use Rattle.std.proofs.lemmas.List.Elements.{All-contains, All-more}
-use Rattle.sim_search.proofs.{Added.gone_through, Common.Contains}
+use Rattle.{sim_search.proofs.{Added.gone_through, Common.Contains}, std.proofs.lemmas.List.Elements.{All-contains, All-more}}
 
 pub loop-cell-preserved : Rattle.sim_search.proofs.region.are_among.Goals.loop-cell-preserved
 loop-cell-preserved c = All-more (Contains c.args.all.now) c.args.cells.now c.loop-cell.cell-index (record { x = 0; z = 0 }) c.loop-cell-test.true

@@ -1,6 +1,5 @@
 -- What lies beside a cell that is joined to the first is joined to it too.
-use Rattle.sim_search.proofs.{Added.first_joined}
-use Rattle.sim_search.proofs.Common.{◌⊎◌, Cell, Contains, field_of_grid, inl, inr, IsJoined, IsOpenStep, on, arith, sym}
+use Rattle.sim_search.proofs.{Added.first_joined, Common.{arith, Cell, Contains, field_of_grid, inl, inr, IsJoined, IsOpenStep, on, sym, ◌⊎◌}}
 
 pub loop-next-init : Rattle.sim_search.proofs.region.reached.Goals.loop-next-init
 loop-next-init c = first_joined (field_of_grid c.args.grid.now) c.args.first c.in_ok-cells.cells.items c.push.new.self.items c.requires.on c.requires.is_open

@@ -1,7 +1,6 @@
 -- The open cells beside one cell more are added.
-use Rattle.sim_search.proofs.Common.{All-weaker, arith, Cell, Contains, field_of_grid, get_or, inl, inr, IsOnGround, IsOpenStep, List, neighbour-on, take, true}
-use Rattle.sim_search.proofs.{Added.gone_through, Common.ℕ, Common.◌≡◌, Common.◌⊎◌}
-use Rattle.sim_search.specs.{Floods.IsInside, declared.region.Window.Window}
+use Rattle.sim_search.proofs.{Added.gone_through, Common.{All-weaker, arith, Cell, Contains, field_of_grid, get_or, inl, inr, IsOnGround, IsOpenStep, List}}
+use Rattle.sim_search.{proofs.Common.{neighbour-on, take, true, ℕ, ◌≡◌, ◌⊎◌}, specs.{declared.region.Window.Window, Floods.IsInside}}
 use Rattle.std.proofs.lemmas.List.Elements.{All-contains, All-more}
 
 pub loop-cell-preserved : Rattle.sim_search.proofs.region.rim_of.Goals.loop-cell-preserved

@@ -1,5 +1,4 @@
-use Rattle.sim_search.proofs.Common.{All, Cell, Contains, field_of_grid, IsOpenStep, take}
-use Rattle.sim_search.specs.Floods.{AreOpen}
+use Rattle.sim_search.{proofs.Common.{All, Cell, Contains, field_of_grid, IsOpenStep, take}, specs.Floods.AreOpen}
 
 abbrev pub invariant-loop-cell : Rattle.sim_search.proofs.region.rim_of.Given.invariant-loop-cell
 invariant-loop-cell l = record {

@@ -1,5 +1,4 @@
-use Rattle.sim_search.proofs.Common.{◌≡◌, bit_at, field_of_grid, neighbour-on, shr_and_one, sym, ◌∙◌}
-use Rattle.sim_search.proofs.Moves.{move-by_bit, move-of}
+use Rattle.sim_search.proofs.{Common.{bit_at, field_of_grid, neighbour-on, shr_and_one, sym, ◌∙◌, ◌≡◌}, Moves.{move-by_bit, move-of}}
 
 pub returns-then-moves-which-eq1-clause-step : Rattle.sim_search.proofs.steps.step.Goals.returns-then-moves-which-eq1-clause-step
 returns-then-moves-which-eq1-clause-step c =

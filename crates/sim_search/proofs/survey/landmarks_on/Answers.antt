@@ -1,6 +1,5 @@
 -- Rows that tell nothing are landmarks, and stay so as each is set by the costs from an open cell.
-use Rattle.sim_search.proofs.Common.{Cell, cost_in, field_of_grid, ◌∙◌}
-use Rattle.sim_search.proofs.Guiding.{alike-landmarks, same-landmarks, set-landmarks}
+use Rattle.sim_search.proofs.{Common.{Cell, cost_in, field_of_grid, ◌∙◌}, Guiding.{alike-landmarks, same-landmarks, set-landmarks}}
 use Rattle.sim_search.specs.Rows.{alike, row_in, row_with}
 
 pub loop-which-init : Rattle.sim_search.proofs.survey.landmarks_on.Goals.loop-which-init

@@ -1,6 +1,5 @@
 -- The client may be bent, and is then; or nothing happens.
-use Rattle.sim_session.proofs.Beside.{bend_makes, then_ok}
-use Rattle.sim_session.proofs.Common.{true, false, refl, anyway, ap, bends, life_at, rules, shows, subst, Tells, ◌∙◌}
+use Rattle.sim_session.proofs.{Beside.{bend_makes, then_ok}, Common.{anyway, ap, bends, false, life_at, refl, rules, shows, subst, Tells, true, ◌∙◌}}
 use Rattle.sim_base.specs.declared.step.Event.TheVariants as event
 
 pub returns-then-not-bend-clause-acts : Rattle.sim_session.proofs.acting.bend.Goals.returns-then-not-bend-clause-acts

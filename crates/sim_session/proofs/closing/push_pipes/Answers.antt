@@ -1,6 +1,5 @@
 -- The lines of one client more stand behind those so far.
-use Rattle.sim_session.proofs.TextCommon.{◌≡◌, ℕ, ◌+◌, List, ◌++◌, string_bytes, codes, append_assoc, pipe_in, pipe_line}
-use Rattle.sim_session.proofs.Telling.{told_more}
+use Rattle.sim_session.proofs.{Telling.told_more, TextCommon.{append_assoc, codes, List, pipe_in, pipe_line, string_bytes, ℕ, ◌++◌, ◌+◌, ◌≡◌}}
 
 pub loop-before-preserved : Rattle.sim_session.proofs.closing.push_pipes.Goals.loop-before-preserved
 loop-before-preserved c =

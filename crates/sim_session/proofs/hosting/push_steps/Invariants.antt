@@ -1,8 +1,7 @@
 -- The session stands for that over the steps so far, and the text has the lines of their events.
 use Rattle.sim_session.proofs.hosting.push_steps.Given as goal
 use Rattle.sim_session.proofs.TextCommon.{AllBuiltAtMost, events_after, lines_of, loads_in, opened, seen_in, session as session_over, StandsFor, string_bytes}
-use Rattle.sim_session.proofs.TextCommon.{systems_by, take, ◌++◌, ◌≡◌}
-use Rattle.sim_session.specs.Going.{IsSessionBy, KeepsBy}
+use Rattle.sim_session.{proofs.TextCommon.{systems_by, take, ◌++◌, ◌≡◌}, specs.Going.{IsSessionBy, KeepsBy}}
 
 abbrev pub invariant-loop-step : goal.invariant-loop-step
 invariant-loop-step g l =

@@ -1,7 +1,6 @@
 -- All rigs come back in their order, each system in its place.
 use Rattle.sim_session.proofs.hosting.session_text.Goals as goal
-use Rattle.sim_session.proofs.{Builds.built_back, Builds.came_back, Builds.none_built, TextCommon.builds_of, TextCommon.refl, TextCommon.subst, TextCommon.sym}
-use Rattle.sim_session.specs.Going.{ComeBackBuiltBy, rigs_by}
+use Rattle.sim_session.{proofs.{Builds.{built_back, came_back, none_built}, TextCommon.{builds_of, refl, subst, sym}}, specs.Going.{ComeBackBuiltBy, rigs_by}}
 
 pub returns-in-Ok-told-clause-rigs : goal.returns-in-Ok-told-clause-rigs
 returns-in-Ok-told-clause-rigs g c =

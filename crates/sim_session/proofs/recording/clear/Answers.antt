@@ -1,9 +1,7 @@
 -- One rig more has forgotten all.
 use Rattle.sim_session.proofs.recording.clear.Goals as goal
-use Rattle.sim_session.proofs.Builds.{cleared_more, kinds_more, next_cleared, unbuilt_more}
-use Rattle.sim_session.proofs.TextCommon.{arith, length, length-map, rules, ◌<◌, ◌∙◌}
-use Rattle.std.proofs.lemmas.List.{length-set}
-use Rattle.{sim_session.specs.Going.rigs_by, sim_system.specs.RigWords.systems_by, std.proofs.Math.ListN.set, std.proofs.lemmas.List.drop-set-lt}
+use Rattle.sim_session.proofs.{Builds.{cleared_more, kinds_more, next_cleared, unbuilt_more}, TextCommon.{arith, length, length-map, rules, ◌<◌, ◌∙◌}}
+use Rattle.{sim_session.specs.Going.rigs_by, sim_system.specs.RigWords.systems_by, std.proofs.{lemmas.List.{drop-set-lt, length-set}, Math.ListN.set}}
 
 pub loop-i-preserved : goal.loop-i-preserved
 loop-i-preserved g c =

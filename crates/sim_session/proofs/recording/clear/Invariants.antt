@@ -1,8 +1,7 @@
 -- The rigs so far have forgotten all, and none was built.
 use Rattle.sim_session.proofs.recording.clear.Given as goal
-use Rattle.sim_session.proofs.TextCommon.{All, AllBuiltAtMost, length, take, ◌≡◌}
-use Rattle.std.specs.Prelude.{vec_capacity}
-use Rattle.{sim_client.specs.StageWords.AreCleared, sim_session.specs.Going.rigs_by, sim_system.specs.Meanings.HaveKinds, std.proofs.Common.drop}
+use Rattle.{sim_client.specs.StageWords.AreCleared, sim_session.{proofs.TextCommon.{All, AllBuiltAtMost, length, take, ◌≡◌}, specs.Going.rigs_by}}
+use Rattle.{sim_system.specs.Meanings.HaveKinds, std.{proofs.Common.drop, specs.Prelude.vec_capacity}}
 
 abbrev pub invariant-loop-i : goal.invariant-loop-i
 invariant-loop-i g l =

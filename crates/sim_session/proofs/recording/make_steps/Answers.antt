@@ -1,10 +1,9 @@
 -- One step more is made.
 use Rattle.sim_session.proofs.recording.make_steps.Goals as goal
 use Rattle.sim_session.proofs.TextCommon.{List, loads_in, opened, rules, seen_in, session as session_over, Setup, StandsFor, Step, Steps, subst, sym}
-use Rattle.sim_session.proofs.TextCommon.{ap, AreBuiltIf, arith, ChangeAt, client_of, Event, events, events_after, get_or, has_load, IsStep, length, length-map}
-use Rattle.sim_session.proofs.TextCommon.{ℕ, ◌+◌, ◌-◌, ◌<◌, ◌∙◌, ◌≡◌, ◌≤◌}
-use Rattle.sim_session.proofs.{Builds.all_built_so, Builds.built_by_then, Builds.keeps_on, Builds.step_built, Loads.loads_are_own, MoreSteps.loads_more}
-use Rattle.sim_session.proofs.{MoreSteps.stands_more, NextClients.at_place, TextCommon.systems_by, TextCommon.systems_on, TextCommon.take, TextCommon.true}
+use Rattle.sim_session.proofs.{Builds.{all_built_so, built_by_then, keeps_on, step_built}, Loads.loads_are_own, MoreSteps.{loads_more, stands_more}}
+use Rattle.sim_session.proofs.{NextClients.at_place, TextCommon.{ap, AreBuiltIf, arith, ChangeAt, client_of, Event, events, events_after, get_or, has_load}}
+use Rattle.sim_session.proofs.TextCommon.{IsStep, length, length-map, systems_by, systems_on, take, true, ℕ, ◌+◌, ◌-◌, ◌<◌, ◌∙◌, ◌≡◌, ◌≤◌}
 
 pub loop-step-preserved : goal.loop-step-preserved
 loop-step-preserved g c =

@@ -1,6 +1,5 @@
 -- The commands of one turn more are kept.
-use Rattle.{sim_server.specs.Standing.server_of, std.proofs.lemmas.List.FromFn.map-range_with_len_more}
-use Rattle.sim_session.proofs.TextCommon.{◌+◌, arith}
+use Rattle.{sim_server.specs.Standing.server_of, sim_session.proofs.TextCommon.{arith, ◌+◌}, std.proofs.lemmas.List.FromFn.map-range_with_len_more}
 
 pub loop-before-preserved : Rattle.sim_session.proofs.recording.turns_of.Goals.loop-before-preserved
 loop-before-preserved c =

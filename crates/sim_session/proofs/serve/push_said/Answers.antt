@@ -1,8 +1,7 @@
 -- One arrival more is heard, and what is said at it is appended.
-use Rattle.std.proofs.Common.{[], ap, append_assoc, arith, length, map, sym, ◌∙◌, ◌∷◌, ◌≡◌}
-use Rattle.{sim_lists.specs.Arrivals.plain_arrival, sim_plain.specs.Server.posts_of, sim_plain.specs.Server.server_after}
-use Rattle.{sim_plain.specs.declared.rules.Rules.Rules, sim_session.proofs.Histories.history_more, sim_session.proofs.Histories.said_more}
-use Rattle.{sim_session.specs.Served.history, std.specs.Prelude.string_bytes, std.specs.Vec.Iter.into_iter_items}
+use Rattle.{sim_lists.specs.Arrivals.plain_arrival, sim_plain.specs.{declared.rules.Rules.Rules, Server.{posts_of, server_after}}}
+use Rattle.sim_session.{proofs.Histories.{history_more, said_more}, specs.Served.history}
+use Rattle.std.{proofs.Common.{ap, append_assoc, arith, length, map, sym, [], ◌∙◌, ◌∷◌, ◌≡◌}, specs.{Prelude.string_bytes, Vec.Iter.into_iter_items}}
 
 pub loop-arrival-preserved : Rattle.sim_session.proofs.serve.push_said.Goals.loop-arrival-preserved
 loop-arrival-preserved c =

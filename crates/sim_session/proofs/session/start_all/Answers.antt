@@ -1,8 +1,7 @@
 -- One more client has begun.
 use Rattle.sim_session.proofs.session.start_all.Goals as goal
 use Rattle.sim_session.proofs.Common.{All-set, ap, AreBuilt, arith, IsMemberBy, length, length-set, life_at, set, starts, subst, sym, systems_by, systems_on}
-use Rattle.sim_session.proofs.Common.{◌+◌, ◌<◌, ◌∙◌}
-use Rattle.sim_session.proofs.Stepping.{begun_more, changed, kinds_put, next_was, others_more, starts_more, starts_on}
+use Rattle.sim_session.proofs.{Common.{◌+◌, ◌<◌, ◌∙◌}, Stepping.{begun_more, changed, kinds_put, next_was, others_more, starts_more, starts_on}}
 
 pub start-requires-clause-sound : goal.start-requires-clause-sound
 start-requires-clause-sound g c =

@@ -1,6 +1,5 @@
 -- The place of the command is below their number.
-use Rattle.sim_setup.proofs.Common.{◌≡◌, List, Some, ap, arith, falls_at, sym, Timed, ◌∙◌}
-use Rattle.sim_setup.proofs.Falls.{falls_within}
+use Rattle.sim_setup.proofs.{Common.{ap, arith, falls_at, List, Some, sym, Timed, ◌∙◌, ◌≡◌}, Falls.falls_within}
 
 pub returns-in-Some-clause-memory : Rattle.sim_setup.proofs.commands.in_order.Goals.returns-in-Some-clause-memory
 returns-in-Some-clause-memory c = λ few gone.

@@ -1,5 +1,4 @@
-use Rattle.sim_setup.proofs.Common.{◌≡◌, [], map, length, numbered, Tallies, timed_of, view}
-use Rattle.sim_setup.specs.Crowds.{Covers}
+use Rattle.sim_setup.{proofs.Common.{length, map, numbered, Tallies, timed_of, view, [], ◌≡◌}, specs.Crowds.Covers}
 
 abbrev pub invariant-loop-rest : Rattle.sim_setup.proofs.commands.timeds_from.Given.invariant-loop-rest
 invariant-loop-rest l = record {

@@ -1,5 +1,4 @@
-use Rattle.std.proofs.Common.{vec_len}
-use Rattle.sim_setup.proofs.Common.{◌≡◌, ◌+◌, [], ◌∷◌, map, length, mask_of, records, view}
+use Rattle.{sim_setup.proofs.Common.{length, map, mask_of, records, view, [], ◌+◌, ◌∷◌, ◌≡◌}, std.proofs.Common.vec_len}
 
 abbrev pub invariant-loop-rest : Rattle.sim_setup.proofs.players.masks_from.Given.invariant-loop-rest
 invariant-loop-rest l = record {

@@ -1,6 +1,5 @@
 -- Named rates within the limit make rates within it.
-use Rattle.sim_stock.proofs.Balances.{rates_limits}
-use Rattle.sim_stock.proofs.Common.{All, ap, IsRate, length, List, NamedRate, rates_of, subst, sym, ◌∙◌}
+use Rattle.sim_stock.proofs.{Balances.rates_limits, Common.{All, ap, IsRate, length, List, NamedRate, rates_of, subst, sym, ◌∙◌}}
 
 pub returns-clause-limits : Rattle.sim_stock.proofs.amounts.rates_in.Goals.returns-clause-limits
 returns-clause-limits c =

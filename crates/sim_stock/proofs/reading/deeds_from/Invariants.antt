@@ -1,6 +1,5 @@
 -- The deeds so far, which ascend.
-use Rattle.sim_stock.proofs.Common.{◌≡◌, [], map, length, All, dated_of, earliest, IsDated, numbered, view}
-use Rattle.sim_stock.proofs.Runs.{IsRun}
+use Rattle.sim_stock.proofs.{Common.{All, dated_of, earliest, IsDated, length, map, numbered, view, [], ◌≡◌}, Runs.IsRun}
 
 abbrev pub invariant-loop-rest : Rattle.sim_stock.proofs.reading.deeds_from.Given.invariant-loop-rest
 invariant-loop-rest l = record {

@@ -1,7 +1,6 @@
 -- How much was given out where reading ended before the file did.
-use Rattle.sim_store.proofs.Given.{after_giving-after_giving, KeepsFiles-trans}
-use Rattle.sim_store.specs.{Reading.ReadsUp, Shelf.after_giving, declared.fault.StoreFault.TheVariants.OutOfMemory}
-use Rattle.std.proofs.Common.{ap, arith, Err, length, rules, subst, sym, ◌+◌, ◌∙◌, ◌≡◌}
+use Rattle.sim_store.{proofs.Given.{after_giving-after_giving, KeepsFiles-trans}, specs.{declared.fault.StoreFault.TheVariants.OutOfMemory, Reading.ReadsUp}}
+use Rattle.{sim_store.specs.Shelf.after_giving, std.proofs.Common.{ap, arith, Err, length, rules, subst, sym, ◌+◌, ◌∙◌, ◌≡◌}}
 
 pub returns-then-count-len-clause-reads : Rattle.sim_store.proofs.read.read_rest.Goals.returns-then-count-len-clause-reads
 returns-then-count-len-clause-reads g c = record {

@@ -1,6 +1,5 @@
 -- One more piece written keeps the invariant: the beginning of the bytes grows by what the shelf took.
-use Rattle.std.proofs.Common.{arith, length-drop, ◌∙◌}
-use Rattle.sim_store.proofs.Pieces.{Appends-more, HeldSet-HeldGrows}
+use Rattle.{sim_store.proofs.Pieces.{Appends-more, HeldSet-HeldGrows}, std.proofs.Common.{arith, length-drop, ◌∙◌}}
 
 pub loop-done-preserved : Rattle.sim_store.proofs.write.fill.Goals.loop-done-preserved
 loop-done-preserved g c =

@@ -1,6 +1,5 @@
 -- What the file holds so far is the beginning of the bytes, and nothing has failed.
-use Rattle.{sim_store.specs.Shelf.HeldSet, sim_store.specs.Shelf.KeepsReading, std.specs.Io.KnownBytes.Appends}
-use Rattle.std.proofs.Common.{◌≡◌, ◌-◌, ◌≤◌, length, take, IsTrue}
+use Rattle.{sim_store.specs.Shelf.{HeldSet, KeepsReading}, std.{proofs.Common.{IsTrue, length, take, ◌-◌, ◌≡◌, ◌≤◌}, specs.Io.KnownBytes.Appends}}
 
 abbrev pub invariant-loop-done : Rattle.sim_store.proofs.write.fill.Given.invariant-loop-done
 invariant-loop-done g l = record {

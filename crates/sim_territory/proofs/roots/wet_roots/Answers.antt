@@ -2,8 +2,7 @@
 use Rattle.sim_territory.proofs.roots.wet_roots.Goals as goal
 use Rattle.sim_territory.proofs.Common.{All-get_or, Flood, get_or, ground_size, holder_by, is_root, is_root_under, IsMarkIn, IsOnGround, IsWetAt, List, Mark}
 use Rattle.sim_territory.proofs.Common.{refl, roots_among, Size, subst, sum_at, sym, take, take_all, ◌+◌, ◌∙◌, ◌≡◌}
-use Rattle.sim_territory.proofs.Flooding.{AtRoots, root_is, roots_pass, roots_step}
-use Rattle.sim_territory.proofs.roots.wet_roots.Goals.{else-is_root, then-is_root+in_ok-wet}
+use Rattle.sim_territory.proofs.{Flooding.{AtRoots, root_is, roots_pass, roots_step}, roots.wet_roots.Goals.{else-is_root, then-is_root+in_ok-wet}}
 
 -- what is read past the end
 abbrev no_mark : Mark

@@ -1,6 +1,5 @@
 -- The text of the trial is read as a match file is.
-use Rattle.{sim_top.specs.Stops.Reads, sim_trial.specs.Trial.text_of_trial}
-use Rattle.sim_top.proofs.Common.{◌≡◌, ℕ, List, ap, setup_by, setup_of, subst, trial_match, ◌∙◌}
+use Rattle.{sim_top.{proofs.Common.{ap, List, setup_by, setup_of, subst, trial_match, ℕ, ◌∙◌, ◌≡◌}, specs.Stops.Reads}, sim_trial.specs.Trial.text_of_trial}
 
 pub returns-clause-tells : Rattle.sim_top.proofs.inputs.trial_match.Goals.returns-clause-tells
 unfolding trial_match

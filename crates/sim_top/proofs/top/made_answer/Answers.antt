@@ -1,8 +1,7 @@
 -- What the request comes to is answered, or why it ended.
-use Rattle.sim_top.proofs.{Preparing.answered_settled, Preparing.of_answer, Preparing.of_ended, Preparing.of_unasked, Returning.rigs_later, Returning.rigs_same}
-use Rattle.sim_top.proofs.Common.{status_of, subst, sym, used, words_of}
-use Rattle.sim_top.proofs.Common.{◌≡◌, Some, None, string_bytes, Option, option_map, refl, ap, Asked, asked, asked_by, IsAnswered, RigsCameBackBy, Status}
-use Rattle.sim_top.specs.declared.words.Request.{Request}
+use Rattle.sim_top.proofs.Common.{ap, Asked, asked, asked_by, IsAnswered, None, Option, option_map, refl, RigsCameBackBy, Some, Status, status_of, string_bytes}
+use Rattle.sim_top.proofs.{Common.{subst, sym, used, words_of, ◌≡◌}, Preparing.{answered_settled, of_answer, of_ended, of_unasked}}
+use Rattle.sim_top.{proofs.Returning.{rigs_later, rigs_same}, specs.declared.words.Request.Request}
 use Rattle.sim_top.proofs.top.made_answer.Goals as goal
 
 pub returns-in-Ok-clause-answer : goal.returns-in-Ok-clause-answer

@@ -1,6 +1,5 @@
 -- Each round tells the changes of the next id. There are no more where neither list has a mark left.
-use Rattle.std.proofs.Common.{sym}
-use Rattle.sim_trail.proofs.Merging.{begins, ends, fewer_left, goes_on}
+use Rattle.{sim_trail.proofs.Merging.{begins, ends, fewer_left, goes_on}, std.proofs.Common.sym}
 use Rattle.sim_trail.proofs.merge.shifts_between.Goals as goal
 
 pub ids-init : goal.ids-init

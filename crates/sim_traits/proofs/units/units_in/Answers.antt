@@ -1,9 +1,8 @@
 use Rattle.sim_traits.proofs.units.units_in.Goals as goal
-use Rattle.sim_traits.proofs.Counted.{counted_part, numbers_of_counted, numbers_within, refused_part}
-use Rattle.std.proofs.Common.{[], ap, false, filter, length, List, lit<, map, Ok, sym, true, ℕ, ◌∙◌, ◌∷◌, ◌≡◌}
-use Rattle.std.proofs.lemmas.Iterator.Consumers.{YieldsList-at, YieldsList-end, YieldsList-so_far, YieldsList-turn}
-use Rattle.std.{proofs.lemmas.Iterator.Splits.YieldsList-from_str_split, proofs.lemmas.List.map-append, specs.Borrow.Bor}
-use Rattle.{sim_traits.specs.Values.is_admitted, sim_traits.specs.Values.numbers_in, sim_tree.specs.Tokens.is_word}
+use Rattle.sim_traits.{proofs.Counted.{counted_part, numbers_of_counted, numbers_within, refused_part}, specs.Values.{is_admitted, numbers_in}}
+use Rattle.{sim_tree.specs.Tokens.is_word, std.proofs.Common.{ap, false, filter, length, List, lit<, map, Ok, sym, true, ℕ, [], ◌∙◌, ◌∷◌, ◌≡◌}}
+use Rattle.std.proofs.lemmas.Iterator.{Consumers.{YieldsList-at, YieldsList-end, YieldsList-so_far, YieldsList-turn}, Splits.YieldsList-from_str_split}
+use Rattle.std.{proofs.lemmas.List.map-append, specs.Borrow.Bor}
 
 -- the part is refused, so the whole text is
 pub returns-then-not-branch-clause-value : goal.returns-then-not-branch-clause-value

@@ -1,6 +1,5 @@
 -- The commands of player 2 stand behind those of player 1, who has at least one.
-use Rattle.sim_trial.proofs.Common.{ap, arith, List, on_ok_weaker, string_bytes, ℕ, ◌++◌, ◌∙◌, ◌≢◌}
-use Rattle.sim_trial.proofs.OwnedSoldiers.{appended, both_walk}
+use Rattle.sim_trial.proofs.{Common.{ap, arith, List, on_ok_weaker, string_bytes, ℕ, ◌++◌, ◌∙◌, ◌≢◌}, OwnedSoldiers.{appended, both_walk}}
 
 pub returns : Rattle.sim_trial.proofs.walks.push_commands.Goals.returns
 returns c =

@@ -1,5 +1,4 @@
-use Rattle.{sim_base.specs.Limits.IsFrom, sim_turn.proofs.Counting.all_mapped}
-use Rattle.sim_turn.proofs.Common.{◌<◌, length, arith, IsOrderOf, Setup, setup_in, subst, sym, Timed}
+use Rattle.{sim_base.specs.Limits.IsFrom, sim_turn.proofs.{Common.{arith, IsOrderOf, length, Setup, setup_in, subst, sym, Timed, ◌<◌}, Counting.all_mapped}}
 
 pub obey-requires : Rattle.sim_turn.proofs.playing.obey_due.Goals.obey-requires
 obey-requires g c =

@@ -1,7 +1,6 @@
 -- The commands are no turn, and the phases behind them give one.
-use Rattle.sim_turn.proofs.Common.{ap, setup_in, State, state_in, ◌∙◌}
-use Rattle.sim_turn.proofs.Counting.{joined, joined_valid, orders_keep_turn, still_below}
 use Rattle.{sim_base.proofs.Lists.on_ok, sim_board.proofs.Keeping.kept_on}
+use Rattle.sim_turn.proofs.{Common.{ap, setup_in, State, state_in, ◌∙◌}, Counting.{joined, joined_valid, orders_keep_turn, still_below}}
 
 pub run_phases-requires : Rattle.sim_turn.proofs.turns.turn.Goals.run_phases-requires
 run_phases-requires g c =

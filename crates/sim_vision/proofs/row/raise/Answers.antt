@@ -1,6 +1,5 @@
 -- The loop comes to the end of the cells, or has none.
-use Rattle.sim_vision.proofs.Common.{◌+◌, Bool, false, ◌||◌, get_or, ap, arith, one_if, ◌∙◌}
-use Rattle.sim_vision.proofs.Rows.{done_same}
+use Rattle.sim_vision.proofs.{Common.{ap, arith, Bool, false, get_or, one_if, ◌+◌, ◌||◌, ◌∙◌}, Rows.done_same}
 
 pub returns-clause-counts : Rattle.sim_vision.proofs.row.raise.Goals.returns-clause-counts
 returns-clause-counts c = λ k.

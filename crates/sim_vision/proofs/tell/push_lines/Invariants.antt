@@ -1,6 +1,5 @@
 -- The lines of the players so far.
-use Rattle.std.specs.Prelude.{flat_map}
-use Rattle.sim_vision.proofs.Common.{◌≡◌, ◌-◌, ◌≤◌, ◌++◌, string_bytes, explored_in, range_with_len, sight_line, visible_in}
+use Rattle.{sim_vision.proofs.Common.{explored_in, range_with_len, sight_line, string_bytes, visible_in, ◌++◌, ◌-◌, ◌≡◌, ◌≤◌}, std.specs.Prelude.flat_map}
 
 abbrev pub invariant-loop-player : Rattle.sim_vision.proofs.tell.push_lines.Given.invariant-loop-player
 invariant-loop-player l = record {

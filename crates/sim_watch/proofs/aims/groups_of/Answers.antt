@@ -1,6 +1,5 @@
 -- One entity more aims, if it has a target.
-use Rattle.sim_fact_lists.proofs.Grouping.{one_more_grouped}
-use Rattle.sim_watch.proofs.Common.{aim_key, ap, arith, joined_by, kept, Watch, ◌∙◌}
+use Rattle.{sim_fact_lists.proofs.Grouping.one_more_grouped, sim_watch.proofs.Common.{aim_key, ap, arith, joined_by, kept, Watch, ◌∙◌}}
 
 pub loop-fact-preserved : Rattle.sim_watch.proofs.aims.groups_of.Goals.loop-fact-preserved
 loop-fact-preserved c =

@@ -1,8 +1,7 @@
 -- The hit that lands is added to the sum of its target.
-use Rattle.sim_base.specs.{Commands.is_near, Places.next_word, Rows.arms_of, Rows.row_of, Turn.Hit, Turn.lands, Turn.resist_of, Turn.taken}
-use Rattle.std.proofs.Common.{[], ap, arith, get_or, length, List, rules, set, Some, subst, sym, true, ℕ, ◌++◌, ◌+◌, ◌<◌, ◌∙◌, ◌∷◌, ◌≡◌}
-use Rattle.{sim_attack.proofs.Sums.fought_lands, sim_attack.proofs.Sums.hit_at, sim_attack.specs.Fights.AreTaken, sim_base.specs.declared.state.Row.Row}
-use Rattle.{sim_plans.specs.Found.found, std.proofs.lemmas.List.get_or_default}
+use Rattle.{sim_attack.{proofs.Sums.{fought_lands, hit_at}, specs.Fights.AreTaken}, sim_base.specs.{Commands.is_near, declared.state.Row.Row, Places.next_word}}
+use Rattle.{sim_base.specs.{Rows.{arms_of, row_of}, Turn.{Hit, lands, resist_of, taken}}, sim_plans.specs.Found.found, std.proofs.Common.{ap, arith, get_or}}
+use Rattle.std.proofs.{Common.{length, List, rules, set, Some, subst, sym, true, ℕ, [], ◌++◌, ◌+◌, ◌<◌, ◌∙◌, ◌∷◌, ◌≡◌}, lemmas.List.get_or_default}
 
 pub returns-then-lands-clause-damage : Rattle.sim_attack.proofs.battle.Battle.fight.Goals.returns-then-lands-clause-damage
 returns-then-lands-clause-damage c =

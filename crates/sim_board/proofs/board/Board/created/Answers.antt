@@ -1,6 +1,5 @@
 -- All are told of the new row.
-use Rattle.sim_board.proofs.{Common.refl, Feeding.all_fed, Feeding.all_may_hear, Feeding.birth_is_told}
-use Rattle.std.proofs.lemmas.Result.{err_from_is_err_and}
+use Rattle.{sim_board.proofs.{Common.refl, Feeding.{all_fed, all_may_hear, birth_is_told}}, std.proofs.lemmas.Result.err_from_is_err_and}
 use Rattle.sim_board.proofs.board.Board.created.Goals as goal
 
 pub tell_all-requires-clause-may : goal.tell_all-requires-clause-may

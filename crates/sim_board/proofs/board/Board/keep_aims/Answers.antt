@@ -1,9 +1,7 @@
 -- One more is made. At the end the rows are put back, and the systems know the later state.
 use Rattle.sim_board.proofs.board.Board.keep_aims.Goals as goal
-use Rattle.sim_board.proofs.Common.{ap, drop, List, refl, Row, State, subst, sym, ℕ, ◌+◌, ◌∙◌, ◌≡◌}
-use Rattle.sim_board.proofs.board.Board.keep_aims.Goals.{else-loop-change-test, then-loop-change-test+in_default}
-use Rattle.sim_board.{proofs.Quieting.all_left, proofs.Quieting.one_kept, specs.Boards.LeadsOn}
-use Rattle.std.proofs.Common.{Global, Vec}
+use Rattle.sim_board.proofs.{board.Board.keep_aims.Goals.{else-loop-change-test, then-loop-change-test+in_default}, Common.{ap, drop, List, refl, Row, State}}
+use Rattle.{sim_board.{proofs.{Common.{subst, sym, ℕ, ◌+◌, ◌∙◌, ◌≡◌}, Quieting.{all_left, one_kept}}, specs.Boards.LeadsOn}, std.proofs.Common.{Global, Vec}}
 
 pub loop-change-init : goal.loop-change-init
 loop-change-init g c =

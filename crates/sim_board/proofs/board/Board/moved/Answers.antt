@@ -1,8 +1,7 @@
 -- Range is told, and the others need not be.
-use Rattle.sim_board.proofs.Common.{refl, Census, Ground, Kind, Moved, Range, Watch}
-use Rattle.sim_board.proofs.{Feeding.fed_told, Feeding.fed_unheard, Feeding.may_hear, Feeding.move_is_told, Keeping.kept_fed, Keeping.kept_range}
+use Rattle.sim_board.proofs.{Common.{Census, Ground, Kind, Moved, Range, refl, Watch}, Feeding.{fed_told, fed_unheard, may_hear, move_is_told}}
+use Rattle.{sim_board.proofs.Keeping.{kept_fed, kept_range}, std.proofs.lemmas.Result.err_from_is_err_and}
 use Rattle.sim_board.proofs.board.Board.moved.Goals as goal
-use Rattle.std.proofs.lemmas.Result.{err_from_is_err_and}
 
 pub tell-requires : goal.tell-requires
 tell-requires g c = may_hear Range _ _ _ _ c.requires.stands.fed.range (move_is_told Range _ _ c.requires.stands.limits c.requires.stands.valid c.args.id

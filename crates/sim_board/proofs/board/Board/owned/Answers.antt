@@ -1,7 +1,6 @@
 -- Range and Census are told, and the others need not be.
-use Rattle.sim_board.proofs.Common.{Census, Ground, Kind, Owned, Range, refl, Watch}
-use Rattle.sim_board.proofs.{Feeding.fed_told, Feeding.fed_unheard, Feeding.may_hear, Feeding.owner_is_told, Keeping.kept_census, Keeping.kept_fed}
-use Rattle.{sim_board.proofs.Keeping.kept_range, std.proofs.lemmas.Result.err_from_is_err_and}
+use Rattle.sim_board.proofs.{Common.{Census, Ground, Kind, Owned, Range, refl, Watch}, Feeding.{fed_told, fed_unheard, may_hear, owner_is_told}}
+use Rattle.{sim_board.proofs.Keeping.{kept_census, kept_fed, kept_range}, std.proofs.lemmas.Result.err_from_is_err_and}
 use Rattle.sim_board.proofs.board.Board.owned.Goals as goal
 
 pub tell-requires : goal.tell-requires

@@ -1,9 +1,8 @@
 -- The place that is kept for the row changes nothing else. The systems were told of the change, and the state is as it says.
-use Rattle.sim_board.proofs.Common.{ap, Fits, left_by, subst, sym, ◌∙◌}
-use Rattle.sim_board.proofs.{Letting.left_by_watchers, Standing.keeping_makes_none, Standing.makes_none, Standing.stands_by, Standing.stands_if}
+use Rattle.sim_board.proofs.{Common.{ap, Fits, left_by, subst, sym, ◌∙◌}, Letting.left_by_watchers}
+use Rattle.{sim_board.proofs.Standing.{keeping_makes_none, makes_none, stands_by, stands_if}, std.proofs.lemmas.Result.err_from_is_err_and}
 use Rattle.sim_base.specs.declared.change.Change.TheVariants as change
 use Rattle.sim_board.proofs.board.Board.step.Goals as goal
-use Rattle.std.proofs.lemmas.Result.{err_from_is_err_and}
 
 pub removed-requires : goal.removed-requires
 removed-requires g c = record {

@@ -1,6 +1,5 @@
 -- All pieces of a row have room in what gathers them.
-use Rattle.std.proofs.Common.{[], subst, ◌∙◌, ◌≡◌}
-use Rattle.{sim_base.specs.Spelling.moving_bytes, sim_bytes.specs.Laws.length-moving_bytes, sim_bytes.specs.Telling.Tells, std.proofs.Common.OnOk}
+use Rattle.{sim_base.specs.Spelling.moving_bytes, sim_bytes.specs.{Laws.length-moving_bytes, Telling.Tells}, std.proofs.Common.{OnOk, subst, [], ◌∙◌, ◌≡◌}}
 
 pub returns : Rattle.sim_bytes.proofs.motion.MotionRowRowForm.tell.Goals.returns
 returns g c =

@@ -1,6 +1,5 @@
 -- All is the same where no piece differed and nothing is left.
-use Rattle.std.proofs.{Common.sym, Common.◌∙◌, lemmas.Bool.false≢true, lemmas.List.append-nil}
-use Rattle.sim_bytes.proofs.Comparisons.{ended}
+use Rattle.{sim_bytes.proofs.Comparisons.ended, std.proofs.{Common.{sym, ◌∙◌}, lemmas.{Bool.false≢true, List.append-nil}}}
 
 pub returns-else-self : Rattle.sim_bytes.proofs.sink.Comparing.is_same.Goals.returns-else-self
 returns-else-self c = λ wanted told h.

@@ -1,9 +1,8 @@
 -- `closed` makes the handle at null, which owns nothing.
 use Rattle.sim_c.specs.contracts.handle.Handle.closed as f
 use Rattle.sim_c.proofs.handle.Handle.closed.Code as code
-use Rattle.sim_c.proofs.{Address.handle_in, Address.word, handle.Handle.closed.Statement.statement}
-use Rattle.std.proofs.{Common.[], Common.lit<, Common.refl, Common.◌∷◌, raw_atomic.Walks.proved}
-use Rattle.std.specs.declared.option.Option.TheVariants.{None}
+use Rattle.sim_c.proofs.{Address.{handle_in, word}, handle.Handle.closed.Statement.statement}
+use Rattle.std.{proofs.{Common.{lit<, refl, [], ◌∷◌}, raw_atomic.Walks.proved}, specs.declared.option.Option.TheVariants.None}
 use base.Fml.{ftrue}
 use denote.{RawPtr.Ptr, RawPtr.null_ptr, Steps.nothing, Triple.Entry.on_entry, Triple.Walked.ends_at, Triple.Walked.says, Triple.Walked.walk_of}
 use types.{ByLocal.alloc_all, ByLocal.free_all, ByLocal.look_at, ByLocal.pass_all, ByLocal.sets, Kit.!, Kit.done, Kit.drop, Kit.feq_i, Kit.group, Kit.qed}

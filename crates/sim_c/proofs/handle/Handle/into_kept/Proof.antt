@@ -1,12 +1,11 @@
 -- `into_kept` compares the address with null: the box that is owned at any other address tells that this may be done.
 use Rattle.sim_c.specs.contracts.handle.Handle.into_kept as f
 use Rattle.sim_c.proofs.handle.Handle.into_kept.Code as code
-use Rattle.sim_c.proofs.{Address.K, Address.LZ, Address.R, Address.Z, Address.either, Address.handle_out, Address.word, Parts.frees, Parts.pair}
+use Rattle.sim_c.proofs.{Address.{either, handle_out, K, LZ, R, word, Z}, Parts.{frees, pair}}
+use Rattle.std.proofs.{alloc.{Calls.handle_tells, Shapes.after}, cell.Inside.Good, Common.{ap, List, lit<, refl, subst, sym, [], ◌++◌, ◌∙◌, ◌∷◌, ◌≡◌}}
+use Rattle.std.proofs.{option.Made.{none_of, Some-of}, raw_atomic.Walks.proved_at}
+use Rattle.{std.specs.{contracts.impls.GlobalAllocator.TheImpl.ghosts, declared.option.Option.TheVariants.{None, Some}}, std_alloc.proofs.ResultValues.and_tt}
 use Rattle.sim_c.{proofs.Parts.pair_fits, proofs.Parts.parts_in, proofs.handle.Handle.into_kept.Statement.statement, specs.contracts.handle.Handle.the_row as H}
-use Rattle.std.proofs.Common.{List, [], ap, lit<, refl, subst, sym, ◌++◌, ◌∙◌, ◌∷◌, ◌≡◌}
-use Rattle.std.proofs.{alloc.Calls.handle_tells, alloc.Shapes.after, cell.Inside.Good, option.Made.Some-of, option.Made.none_of, raw_atomic.Walks.proved_at}
-use Rattle.std.specs.{contracts.impls.GlobalAllocator.TheImpl.ghosts, declared.option.Option.TheVariants.None, declared.option.Option.TheVariants.Some}
-use Rattle.std_alloc.proofs.ResultValues.{and_tt}
 use base.{Fml.ftrue, Logic.SProp, Logic.ent, Logic.id⊢}
 use contract.Running.{tables}
 use denote.Triple.Walked.{stay_dropped, walk_of}
@@ -15,7 +14,7 @@ use denote.{Signature.type_at, Signature.types_at, Steps.nothing, Triple.Walked.
 use mir.Val.{Val, vcons, vnil}
 use prog.Wp.{WpFn}
 use types.ByLocal.{alloc_all, env, free_all, get, get_in, look_at, pass_all, sets, sets_last}
-use types.Kit.{!, at_ret, done, drop, fsplit, group, join, keep, move, qed, raw, split, suffices, use0, use1, ‵, ◌$◌, ◌∵◌, ◌⊛◌}
+use types.Kit.{ !, at_ret, done, drop, fsplit, group, join, keep, move, qed, raw, split, suffices, use0, use1, ‵, ◌$◌, ◌∵◌, ◌⊛◌}
 use types.Run.{of_opd, returns, stop}
 use types.{Match.live, Part.agg, Part.sub, Part.whole, Run.and_then, Run.bin, Run.branches, Run.enter, Run.exec, Run.first, Run.fld, Run.lit, Run.no_more}
 

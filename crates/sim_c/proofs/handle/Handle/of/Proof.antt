@@ -1,10 +1,9 @@
 -- `of` moves the address of the box into the handle.
 use Rattle.sim_c.specs.contracts.handle.Handle.of as f
 use Rattle.sim_c.proofs.handle.Handle.of.Code as code
-use Rattle.sim_c.proofs.{Address.K, Address.LZ, Address.R, Address.Z, Address.boxed, Address.handle_in, Address.word, Parts.pair, Parts.pair_fits}
-use Rattle.sim_c.proofs.{Parts.parts_out, handle.Handle.of.Statement.statement}
-use Rattle.std.proofs.{Common.List, Common.[], Common.refl, Common.subst, Common.sym, Common.◌++◌, Common.◌∷◌, raw_atomic.Walks.proved_at}
-use Rattle.std.specs.{contracts.impls.GlobalAllocator.TheImpl.ghosts, declared.alloc.Global.Global, declared.option.Option.TheVariants.Some}
+use Rattle.sim_c.proofs.{Address.{boxed, handle_in, K, LZ, R, word, Z}, handle.Handle.of.Statement.statement, Parts.{pair, pair_fits, parts_out}}
+use Rattle.std.proofs.{Common.{List, refl, subst, sym, [], ◌++◌, ◌∷◌}, raw_atomic.Walks.proved_at}
+use Rattle.std.specs.{contracts.impls.GlobalAllocator.TheImpl.ghosts, declared.{alloc.Global.Global, option.Option.TheVariants.Some}}
 use base.{Fml.ftrue, Logic.SProp, Logic.ent, Logic.id⊢}
 use contract.Running.{tables}
 use denote.Triple.Walked.{ends_at, says, stay_dropped, walk_of}

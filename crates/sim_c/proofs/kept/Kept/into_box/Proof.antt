@@ -2,11 +2,10 @@
 use Rattle.std_alloc.proofs.BoxSteps.Form as box
 use Rattle.std_alloc.specs.contracts.boxed.Box.from_raw as made
 use Rattle.sim_c.proofs.kept.Kept.into_box.Code as code
-use Rattle.sim_c.proofs.{Parts.Parts, Parts.pair, Parts.pair_fits, Parts.parts_out, kept.Kept.into_box.Statement.statement}
-use Rattle.sim_c.specs.contracts.kept.Kept.into_box.{Key.name, clauses, ended}
-use Rattle.std.proofs.{Common.List, Common.[], Common.ap, Common.refl, Common.subst, Common.sym, Common.◌++◌, Common.◌∷◌, Common.◌≡◌, alloc.Calls.Goes-blank}
-use Rattle.std.proofs.{alloc.Shapes.after, cell.Inside.Good, raw_atomic.Walks.leaves, raw_atomic.Walks.proved_at}
-use Rattle.std_alloc.proofs.{BoxSteps.Steps.box_in, BoxSteps.Steps.box_out, boxed.Box.from_raw.Met.met}
+use Rattle.sim_c.proofs.{kept.Kept.into_box.Statement.statement, Parts.{pair, pair_fits, Parts, parts_out}}
+use Rattle.{sim_c.specs.contracts.kept.Kept.into_box.{clauses, ended, Key.name}, std.proofs.alloc.{Calls.Goes-blank, Shapes.after}}
+use Rattle.std.proofs.{cell.Inside.Good, Common.{ap, List, refl, subst, sym, [], ◌++◌, ◌∷◌, ◌≡◌}, raw_atomic.Walks.{leaves, proved_at}}
+use Rattle.std_alloc.proofs.{boxed.Box.from_raw.Met.met, BoxSteps.Steps.{box_in, box_out}}
 use base.{Fml.flft, Fml.ftrue, Logic.SProp, Logic.ent, Logic.id⊢}
 use contract.{BorrowLft.◌⊑◌, Monad.fact, Running.tables}
 use denote.Triple.{Table.framed, Walked.Stays, Walked.stay_dropped, Walked.walk_of}
@@ -15,7 +14,7 @@ use denote.{Signature.types_at, Steps.nothing, Steps.only, Triple.Call.calls_at_
 use mir.{MapTy.inst_fn, Syntax.Args, Syntax.a_type, Syntax.dcons, Syntax.dnil, Val.Val, Val.vptr}
 use prog.Wp.{WpFn}
 use types.ByLocal.{alloc_all, env, free_all, get, get_in, lands_last, look_at, pass_all, sets}
-use types.Kit.{!, at_ret, await, by, drop, feq_i, fjoin, fsplit, join, keep, later, move, pick, qed, raw, rewrite, some, split, split3, suffices, use1, ‵, ◌$◌}
+use types.Kit.{ !, at_ret, await, by, drop, feq_i, fjoin, fsplit, join, keep, later, move, pick, qed, raw, rewrite, some, split, split3, suffices, use1, ‵, ◌$◌}
 use types.Run.{stop}
 use types.{Kit.◌∵◌, Kit.◌⊛◌, Part.sub, Part.whole, Run.and_then, Run.blocks, Run.enter, Run.exec, Run.first, Run.fld, Run.no_more, Run.of_opd, Run.returns}
 

@@ -2,11 +2,10 @@
 use Rattle.std_alloc.proofs.BoxSteps.Form as box
 use Rattle.std_alloc.specs.contracts.boxed.Box.into_raw_with_allocator as apart
 use Rattle.sim_c.proofs.kept.Kept.of.Code as code
-use Rattle.sim_c.proofs.{Parts.boxed, Parts.frees, Parts.pair, Parts.pair_fits, Parts.parts_in, kept.Kept.of.Statement.statement}
-use Rattle.sim_c.specs.contracts.kept.Kept.of.{Key.name, clauses, ended}
-use Rattle.std.proofs.Common.{List, [], ap, refl, subst, sym, ◌++◌, ◌∙◌, ◌∷◌, ◌≡◌}
-use Rattle.std.proofs.{alloc.Calls.Goes-blank, alloc.Calls.handle_tells, raw_atomic.Walks.leaves, raw_atomic.Walks.proved_at}
-use Rattle.std_alloc.proofs.{BoxSteps.Steps.box_in, BoxSteps.Steps.box_out, boxed.Box.into_raw_with_allocator.Met.met}
+use Rattle.sim_c.proofs.{kept.Kept.of.Statement.statement, Parts.{boxed, frees, pair, pair_fits, parts_in}}
+use Rattle.{sim_c.specs.contracts.kept.Kept.of.{clauses, ended, Key.name}, std.proofs.alloc.Calls.{Goes-blank, handle_tells}}
+use Rattle.std.proofs.{Common.{ap, List, refl, subst, sym, [], ◌++◌, ◌∙◌, ◌∷◌, ◌≡◌}, raw_atomic.Walks.{leaves, proved_at}}
+use Rattle.std_alloc.proofs.{boxed.Box.into_raw_with_allocator.Met.met, BoxSteps.Steps.{box_in, box_out}}
 use base.{Fml.flft, Fml.fsep, Fml.ftrue, Logic.SProp, Logic.emp, Logic.ent, Logic.fst∗, Logic.id⊢, Logic.never}
 use contract.{Monad.fact, Monad.fact_i, Running.tables}
 use denote.Triple.Walked.{walk_of}
@@ -15,7 +14,7 @@ use denote.{RawPtr.block_ptr, RawPtr.in_a_block, RawPtr.null_ptr, RawPtr.ptr_val
 use denote.{Struct.Tuple.Tuple, Triple.Call.calls_at, Triple.Spec.triple_of, Triple.Table.framed, Triple.Walked.Stays, Triple.Walked.stay_dropped}
 use mir.{MapTy.inst_fn, Raw.raw as bare, Syntax.Args, Syntax.a_type, Syntax.dcons, Syntax.dnil, Val.Val, Val.of_list, Val.vstruct}
 use prog.Wp.{WpFn}
-use types.Kit.{!, await, by, drop, feq_l, fjoin, fpick, fsplit, join, keep, later, move, pick, qed, raw, rewrite, some, split, split3, suffices, use0, use1, ‵}
+use types.Kit.{ !, await, by, drop, feq_l, fjoin, fpick, fsplit, join, keep, later, move, pick, qed, raw, rewrite, some, split, split3, suffices, use0, use1, ‵}
 use types.{ByLocal.alloc_all, ByLocal.free_all, ByLocal.get, ByLocal.get_in, ByLocal.lands_as, ByLocal.look_at, ByLocal.pass_all, ByLocal.sets, Kit.◌$◌}
 use types.{Kit.◌∵◌, Kit.◌⊛◌, Logic.sem, Part.agg, Part.sub, Part.whole, Run.and_then, Run.enter, Run.fld, Run.no_more, Run.of_opd, Run.returns, Run.stop}
 

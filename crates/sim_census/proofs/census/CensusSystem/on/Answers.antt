@@ -1,11 +1,9 @@
 -- What is put in place of the id makes the list that the note makes. One fewer of the old owner, and one more of the new one, are the
 -- numbers after it.
 use Rattle.sim_census.proofs.census.CensusSystem.on.Goals as goal
-use Rattle.sim_census.proofs.Counting.{few_left, is_counted, owner_known, part_found, recounted}
-use Rattle.std.proofs.Common.{List, ap, subst, sym, ◌∙◌}
-use Rattle.{sim_base.proofs.Lists.on_ok, sim_census.proofs.Owning.meant, sim_census.proofs.Owning.part_of_owner, sim_census.specs.Owners.AreCounts}
-use Rattle.{sim_census.specs.Owners.facts_in, sim_fact_lists.proofs.Holding.put_is, sim_fact_lists.proofs.Holding.put_named}
-use Rattle.{sim_fact_lists.proofs.Holding.still_held, sim_system.specs.declared.fact.Fact.Fact, sim_system.specs.declared.kind.Kind.TheVariants.Census}
+use Rattle.{sim_base.proofs.Lists.on_ok, sim_census.proofs.{Counting.{few_left, is_counted, owner_known, part_found, recounted}, Owning.{meant, part_of_owner}}}
+use Rattle.{sim_census.specs.Owners.{AreCounts, facts_in}, sim_fact_lists.proofs.Holding.{put_is, put_named, still_held}}
+use Rattle.{sim_system.specs.declared.{fact.Fact.Fact, kind.Kind.TheVariants.Census}, std.proofs.Common.{ap, List, subst, sym, ◌∙◌}}
 
 pub put-requires : goal.put-requires
 put-requires c =

@@ -1,6 +1,5 @@
 -- Each of the four edits leaves what is kept of the id, and nothing else.
-use Rattle.{sim_census.specs.Owners.facts_in, std.proofs.Common.ap, std.proofs.Common.◌∙◌}
-use Rattle.sim_census.proofs.Owning.{no_owner, owner_gone, owner_new, owner_over, still_up, up_either}
+use Rattle.{sim_census.{proofs.Owning.{no_owner, owner_gone, owner_new, owner_over, still_up, up_either}, specs.Owners.facts_in}, std.proofs.Common.{ap, ◌∙◌}}
 use Rattle.sim_census.proofs.owners.Owners.put.Goals as goal
 
 pub returns-in-Ok-Some-clause-ok : goal.returns-in-Ok-Some-clause-ok

@@ -1,7 +1,6 @@
 -- It is on at a valid state.
-use Rattle.sim_client.proofs.Common.{◌∙◌, IsValid, refl, rules, subst, sym}
-use Rattle.sim_client.{proofs.Standing.none_by_players, proofs.Standing.of_match, specs.StageWords.systems_on}
-use Rattle.{sim_system.specs.Meanings.AreBuiltOnceAtMost, sim_system.specs.RigWords.systems_by, std.specs.Prelude.Option}
+use Rattle.sim_client.{proofs.{Common.{IsValid, refl, rules, subst, sym, ◌∙◌}, Standing.{none_by_players, of_match}}, specs.StageWords.systems_on}
+use Rattle.{sim_system.specs.{Meanings.AreBuiltOnceAtMost, RigWords.systems_by}, std.specs.Prelude.Option}
 use Rattle.sim_client.proofs.client.Client.adopt.Goals as goal
 
 pub returns : goal.returns

@@ -1,8 +1,7 @@
 -- It begins at the first state, which is valid.
-use Rattle.{sim_base.specs.Turn.first_state, sim_client.proofs.Common.◌∙◌}
-use Rattle.sim_client.proofs.{Common.ap, Common.IsValid, Common.refl, Common.rules, Common.subst, Common.sym, Standing.none_by_players, Standing.of_match}
-use Rattle.{sim_client.specs.StageWords.systems_on, sim_laws.proofs.Validity.first_state_is_valid, sim_system.specs.Meanings.AreBuiltOnceAtMost}
-use Rattle.{sim_system.specs.RigWords.systems_by, std.specs.Prelude.Option}
+use Rattle.sim_base.specs.Turn.{first_state}
+use Rattle.sim_client.{proofs.{Common.{ap, IsValid, refl, rules, subst, sym, ◌∙◌}, Standing.{none_by_players, of_match}}, specs.StageWords.systems_on}
+use Rattle.{sim_laws.proofs.Validity.first_state_is_valid, sim_system.specs.{Meanings.AreBuiltOnceAtMost, RigWords.systems_by}, std.specs.Prelude.Option}
 use Rattle.sim_client.proofs.client.Client.start.Goals as goal
 
 pub returns : goal.returns

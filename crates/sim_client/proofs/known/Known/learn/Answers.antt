@@ -1,6 +1,5 @@
 -- They were taken out, and are set again with one more.
-use Rattle.sim_client.proofs.Common.{◌≡◌, ℕ, List, [], ◌∷◌, ◌++◌, OnOk, known_in, PlayerCommand, put, subst, ◌∙◌}
-use Rattle.sim_client.proofs.Knowing.{put_again}
+use Rattle.sim_client.proofs.{Common.{known_in, List, OnOk, PlayerCommand, put, subst, ℕ, [], ◌++◌, ◌∙◌, ◌∷◌, ◌≡◌}, Knowing.put_again}
 
 pub returns : Rattle.sim_client.proofs.known.Known.learn.Goals.returns
 returns c =

@@ -1,6 +1,5 @@
 -- What the first section says is what the rows say.
-use Rattle.sim_codec.proofs.Common.{IsStrictlyIncreasing, IsTrue, subst, ◌↔◌}
-use Rattle.sim_codec.proofs.TakenRows.{entries_fit, entries_of, same_ids}
+use Rattle.sim_codec.proofs.{Common.{IsStrictlyIncreasing, IsTrue, subst, ◌↔◌}, TakenRows.{entries_fit, entries_of, same_ids}}
 
 pub entities_in-entities-requires : Rattle.sim_codec.proofs.stored.StoredRows.are_ascending.Goals.entities_in-entities-requires
 entities_in-entities-requires c = entries_fit c.self.inside.templates.now c.self.inside.count c.self.inside.walk _ c.self.invariant c.bytes.ensures

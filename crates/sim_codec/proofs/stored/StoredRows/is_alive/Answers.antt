@@ -1,7 +1,6 @@
 -- What the first section says is what the rows say.
 use Rattle.sim_codec.proofs.stored.StoredRows.is_alive.Goals as goal
-use Rattle.sim_codec.proofs.Common.{IsStrictlyIncreasing, subst, sym, ◌∙◌}
-use Rattle.sim_codec.proofs.TakenRows.{entries_fit, entries_of, same_ids, same_lives}
+use Rattle.sim_codec.proofs.{Common.{IsStrictlyIncreasing, subst, sym, ◌∙◌}, TakenRows.{entries_fit, entries_of, same_ids, same_lives}}
 
 pub entities_in-entities-requires : goal.entities_in-entities-requires
 entities_in-entities-requires c = entries_fit c.self.inside.templates.now c.self.inside.count c.self.inside.walk _ c.self.invariant c.bytes.ensures

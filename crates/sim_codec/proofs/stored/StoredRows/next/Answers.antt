@@ -1,6 +1,5 @@
 -- The row that is taken stands in front of those that can still be taken.
-use Rattle.sim_codec.proofs.Common.{◌≡◌, suc, ◌-◌, arith, sym, ◌∙◌}
-use Rattle.sim_codec.proofs.TakenRows.{can_next, must_go_on, next_row, no_row_left}
+use Rattle.sim_codec.proofs.{Common.{arith, suc, sym, ◌-◌, ◌∙◌, ◌≡◌}, TakenRows.{can_next, must_go_on, next_row, no_row_left}}
 use Rattle.sim_codec.proofs.stored.StoredRows.next.Goals as goal
 
 pub returns-then-self-eq0 : goal.returns-then-self-eq0

@@ -1,6 +1,5 @@
 -- There is room, so the id is put in its place, if it does not stand there.
-use Rattle.sim_fact_lists.proofs.Common.{ℕ, List, IdBelongs, IdStands, queued, subst, ◌∙◌}
-use Rattle.sim_fact_lists.proofs.Ids.{inserted_there, rising, still_ascend, there_again}
+use Rattle.sim_fact_lists.proofs.{Common.{IdBelongs, IdStands, List, queued, subst, ℕ, ◌∙◌}, Ids.{inserted_there, rising, still_ascend, there_again}}
 use Rattle.sim_fact_lists.proofs.group.Group.join.Goals as goal
 
 pub invariant_of-self : goal.invariant_of-self

@@ -1,6 +1,5 @@
 -- The id is taken out where it stands.
-use Rattle.sim_fact_lists.proofs.Common.{ℕ, List, IdBelongs, IdStands, queued, subst, ◌∙◌}
-use Rattle.sim_fact_lists.proofs.Ids.{absent_there, fewer_ascend, removed_there, rising}
+use Rattle.sim_fact_lists.proofs.{Common.{IdBelongs, IdStands, List, queued, subst, ℕ, ◌∙◌}, Ids.{absent_there, fewer_ascend, removed_there, rising}}
 use Rattle.sim_fact_lists.proofs.group.Group.leave.Goals as goal
 
 pub invariant_of-self : goal.invariant_of-self

@@ -1,7 +1,6 @@
 -- The group that stands there and has no id is taken out, and no other.
-use Rattle.sim_fact_lists.proofs.Common.{subst, sym, ◌∙◌}
-use Rattle.sim_fact_lists.proofs.Common.{◌≡◌, ℕ, true, false, List, [], length, get_or, ◌==◌, ap, eqb-true, Group, KeysAscend, listed, nil_from_length, queued}
-use Rattle.sim_fact_lists.proofs.Keyed.{forgotten_absent, forgotten_there, not_forgotten, removed_ascend, removed_listed}
+use Rattle.sim_fact_lists.proofs.Common.{ap, eqb-true, false, get_or, Group, KeysAscend, length, List, listed, nil_from_length, queued, subst, sym, true, ℕ, []}
+use Rattle.sim_fact_lists.proofs.{Common.{◌==◌, ◌∙◌, ◌≡◌}, Keyed.{forgotten_absent, forgotten_there, not_forgotten, removed_ascend, removed_listed}}
 use Rattle.sim_fact_lists.proofs.groups.Groups.forget.Goals as goal
 
 pub invariant_of-self : goal.invariant_of-self

@@ -1,8 +1,7 @@
 -- The group that stands there has the same ids as before, and a new one has none.
-use Rattle.sim_fact_lists.proofs.Common.{◌≡◌, ℕ, Bool, true, false, cond, List, ◌==◌, refl, ap, HasRoom, listed, subst, sym, ◌∙◌}
+use Rattle.{sim_base.proofs.Lists.on_ok, sim_fact_lists.proofs.Common.{ap, Bool, cond, false, HasRoom, List, listed, refl, subst, sym, true, ℕ, ◌==◌, ◌∙◌, ◌≡◌}}
 use Rattle.sim_fact_lists.proofs.Keyed.{added_ascend, added_listed, added_room, changed_ascend, changed_listed, room_there}
 use Rattle.sim_fact_lists.proofs.groups.Groups.make_room.Goals as goal
-use Rattle.sim_base.proofs.Lists.{on_ok}
 
 either : (b : Bool) (ids : List ℕ) → cond b ids ids ≡ ids
 either true ids = refl

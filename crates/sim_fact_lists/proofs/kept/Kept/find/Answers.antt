@@ -1,6 +1,5 @@
 -- What is held ascends, so that a fact is found where it stands.
-use Rattle.sim_fact_lists.proofs.{Holding.held_ascend, Standing.found_read, Standing.not_there}
-use Rattle.sim_fact_lists.proofs.Common.{List, ap, Ascend, Fact, fact_with, subst, sym, ◌∙◌}
+use Rattle.sim_fact_lists.proofs.{Common.{ap, Ascend, Fact, fact_with, List, subst, sym, ◌∙◌}, Holding.held_ascend, Standing.{found_read, not_there}}
 use Rattle.sim_fact_lists.proofs.kept.Kept.find.Goals as goal
 
 pub place_near-requires : goal.place_near-requires

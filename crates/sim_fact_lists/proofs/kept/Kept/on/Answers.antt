@@ -1,7 +1,6 @@
 -- What is put in place of the id makes the list that the note makes.
-use Rattle.sim_fact_lists.proofs.{Common.◌∙◌, Holding.put_is, Holding.put_named, Holding.still_held}
+use Rattle.{sim_base.proofs.Lists.on_ok, sim_fact_lists.proofs.{Common.◌∙◌, Holding.{put_is, put_named, still_held}}}
 use Rattle.sim_fact_lists.proofs.kept.Kept.on.Goals as goal
-use Rattle.sim_base.proofs.Lists.{on_ok}
 
 pub put-requires-clause-named : goal.put-requires-clause-named
 put-requires-clause-named c = put_named c.args.kind c.args.self.now.facts.items c.args.note.now _ _ _ c.id_of-id.ensures c.find.ensures

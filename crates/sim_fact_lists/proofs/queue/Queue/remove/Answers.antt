@@ -1,6 +1,5 @@
 -- The first id leaves; another is taken out behind those that left.
-use Rattle.sim_fact_lists.proofs.Common.{◌+◌, drop, remove, refl, ap, arith, length-drop, queued, sym, ◌∙◌}
-use Rattle.sim_fact_lists.proofs.Queuing.{first_leaves, removed_behind}
+use Rattle.sim_fact_lists.proofs.{Common.{ap, arith, drop, length-drop, queued, refl, remove, sym, ◌+◌, ◌∙◌}, Queuing.{first_leaves, removed_behind}}
 
 pub returns-then-at-eq0-clause-ids : Rattle.sim_fact_lists.proofs.queue.Queue.remove.Goals.returns-then-at-eq0-clause-ids
 returns-then-at-eq0-clause-ids c =

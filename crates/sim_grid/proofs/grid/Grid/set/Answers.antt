@@ -1,6 +1,5 @@
 use Rattle.sim_grid.proofs.grid.Grid.set.Goals as goal
-use Rattle.sim_base.specs.Places.{IsOnGround}
-use Rattle.sim_grid.{proofs.Beside.steps-apart, specs.Grids.AreStepsApart, specs.Grids.IsGrid, specs.Grids.OpenCells, specs.Packed.ArePacked}
+use Rattle.{sim_base.specs.Places.IsOnGround, sim_grid.{proofs.Beside.steps-apart, specs.{Grids.{AreStepsApart, IsGrid, OpenCells}, Packed.ArePacked}}}
 use Rattle.std.proofs.Common.{ap, arith, Bool, length, List, set, subst, sym, ℕ, ◌*◌, ◌<◌, ◌∙◌}
 
 pub note_about-requires-clause-apart : goal.note_about-requires-clause-apart

@@ -1,6 +1,5 @@
 -- The layers of one cell are set.
-use Rattle.sim_ground.proofs.Common.{◌≡◌, ℕ, ◌+◌, ◌*◌, ap, OpenCells, place_of, refl, ◌∙◌}
-use Rattle.sim_ground.proofs.Layers.{step_layers}
+use Rattle.sim_ground.proofs.{Common.{ap, OpenCells, place_of, refl, ℕ, ◌*◌, ◌+◌, ◌∙◌, ◌≡◌}, Layers.step_layers}
 
 pub returns-then-before-after : Rattle.sim_ground.proofs.cover.Cover.step.Goals.returns-then-before-after
 returns-then-before-after c =

@@ -1,8 +1,7 @@
 -- One cell more is stepped on.
 use Rattle.sim_ground.proofs.cover.Cover.step_row.Goals as goal
-use Rattle.sim_ground.proofs.Common.{arith, in_row, IsOnGround, refl, Size, subst, sym, ℕ, ◌∙◌, ◌≡◌}
-use Rattle.sim_ground.proofs.Layers.{changes_nothing, row_may, row_none, row_steps}
-use Rattle.sim_ground.{proofs.cover.Cover.step_row.Goals.else-step, proofs.cover.Cover.step_row.Goals.then-step, specs.Covering.Changes}
+use Rattle.sim_ground.proofs.{Common.{arith, in_row, IsOnGround, refl, Size, subst, sym, ℕ, ◌∙◌, ◌≡◌}, cover.Cover.step_row.Goals.{else-step, then-step}}
+use Rattle.sim_ground.{proofs.Layers.{changes_nothing, row_may, row_none, row_steps}, specs.Covering.Changes}
 
 pub loop-x-init : goal.loop-x-init
 loop-x-init c = record {

@@ -1,9 +1,7 @@
 -- One row more is stepped on.
 use Rattle.sim_ground.proofs.cover.Cover.step_window.Goals as goal
-use Rattle.sim_ground.proofs.Common.{arith, in_rows, refl, Size, subst, sym, ℕ, ◌<◌, ◌∙◌, ◌≡◌}
-use Rattle.sim_ground.proofs.Layers.{changes_nothing, rows_may, rows_none, rows_steps}
-use Rattle.sim_ground.proofs.cover.Cover.step_window.Goals.{else-step_row, then-step_row}
-use Rattle.sim_ground.specs.{Closing.LiesOn, Covering.Changes}
+use Rattle.sim_ground.proofs.{Common.{arith, in_rows, refl, Size, subst, sym, ℕ, ◌<◌, ◌∙◌, ◌≡◌}, cover.Cover.step_window.Goals.{else-step_row, then-step_row}}
+use Rattle.sim_ground.{proofs.Layers.{changes_nothing, rows_may, rows_none, rows_steps}, specs.{Closing.LiesOn, Covering.Changes}}
 
 pub loop-z-init : goal.loop-z-init
 loop-z-init c =

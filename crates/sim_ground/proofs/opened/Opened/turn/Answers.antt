@@ -1,6 +1,5 @@
 -- What may be mended is, and after the undoing the same cells are open.
-use Rattle.sim_ground.proofs.Common.{AreLabels, field_of_grid, label_in, part_covers, subst, sym}
-use Rattle.sim_ground.proofs.Mendable.{are_turned, labels_undone, own_labels}
+use Rattle.sim_ground.proofs.{Common.{AreLabels, field_of_grid, label_in, part_covers, subst, sym}, Mendable.{are_turned, labels_undone, own_labels}}
 use Rattle.sim_search.specs.declared.labels.Labels.{Labels}
 
 pub are_mended-requires : Rattle.sim_ground.proofs.opened.Opened.turn.Goals.are_mended-requires

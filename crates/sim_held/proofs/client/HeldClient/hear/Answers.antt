@@ -1,6 +1,5 @@
 -- What was refused memory is cut off, and what was refused as no frame is as it was.
-use Rattle.{sim_client.specs.Lives.hears, sim_held.proofs.Common.◌∙◌, sim_held.proofs.Common.◌≡◌, sim_held.proofs.Common.life_at, sim_held.proofs.Common.OnOk}
-use Rattle.{sim_held.proofs.Common.refl, sim_held.proofs.Common.subst, sim_held.proofs.Common.sym, sim_held.proofs.Stepping.goes_steps, std.specs.Prelude.IsOk}
+use Rattle.{sim_client.specs.Lives.hears, sim_held.proofs.{Common.{life_at, OnOk, refl, subst, sym, ◌∙◌, ◌≡◌}, Stepping.goes_steps}, std.specs.Prelude.IsOk}
 
 pub returns : Rattle.sim_held.proofs.client.HeldClient.hear.Goals.returns
 returns c =

@@ -1,6 +1,5 @@
 -- The match stands, the stage is sound after the step, and what was refused memory is cut off.
-use Rattle.sim_client.{proofs.Standing.anyway, specs.Lives.joins}
-use Rattle.sim_held.proofs.{Common.life_at, Common.refl, Common.◌∙◌, Stepping.goes_steps}
+use Rattle.{sim_client.{proofs.Standing.anyway, specs.Lives.joins}, sim_held.proofs.{Common.{life_at, refl, ◌∙◌}, Stepping.goes_steps}}
 
 pub invariant_of-self : Rattle.sim_held.proofs.client.HeldClient.join.Goals.invariant_of-self
 invariant_of-self c =

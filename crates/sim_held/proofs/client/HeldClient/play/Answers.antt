@@ -1,6 +1,5 @@
 -- One that may not play is as it was, and nothing is played.
-use Rattle.sim_held.proofs.{Common.life_at, Common.refl, Common.subst, Common.sym, Running.no_run, Running.ran}
-use Rattle.sim_held.specs.Clients.{RanOn, runs}
+use Rattle.sim_held.{proofs.{Common.{life_at, refl, subst, sym}, Running.{no_run, ran}}, specs.Clients.{RanOn, runs}}
 
 pub returns-in_default : Rattle.sim_held.proofs.client.HeldClient.play.Goals.returns-in_default
 returns-in_default c =

@@ -1,7 +1,6 @@
 -- One frame more stands there.
 use Rattle.sim_held.proofs.outbox.Outbox.push_all.Goals as goal
-use Rattle.sim_held.proofs.Common.{ap, append-nil, arith, frames_of, sym, take_all, up_frame, ◌++◌, ◌∙◌}
-use Rattle.sim_held.proofs.Waits.{appended_more}
+use Rattle.sim_held.proofs.{Common.{ap, append-nil, arith, frames_of, sym, take_all, up_frame, ◌++◌, ◌∙◌}, Waits.appended_more}
 
 pub loop-up-init : goal.loop-up-init
 loop-up-init c = sym (append-nil c.args.self.now)

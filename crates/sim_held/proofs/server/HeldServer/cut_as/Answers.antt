@@ -1,9 +1,7 @@
 -- What is said has frames, and waits behind the rest.
 use Rattle.sim_held.proofs.server.HeldServer.cut_as.Goals as goal
-use Rattle.sim_held.proofs.Common.{[], ap, if◌then◌else◌, Ok, refl, subst, sym, told_to, ◌++◌, ◌∙◌}
-use Rattle.sim_held.proofs.Serving.{cut_by, own_after, own_still, ready_after}
-use Rattle.std.proofs.Common.{◌==◌}
-use Rattle.{sim_held.specs.Servers.AreSmall, sim_held.specs.Servers.waiting, sim_pipes.proofs.Telling.have_frames, sim_plain.specs.Messages.Cut}
+use Rattle.sim_held.proofs.{Common.{ap, if◌then◌else◌, Ok, refl, subst, sym, told_to, [], ◌++◌, ◌∙◌}, Serving.{cut_by, own_after, own_still, ready_after}}
+use Rattle.{sim_held.specs.Servers.{AreSmall, waiting}, sim_pipes.proofs.Telling.have_frames, sim_plain.specs.Messages.Cut, std.proofs.Common.◌==◌}
 
 pub invariant_of-self-in_err-posts : goal.invariant_of-self-in_err-posts
 invariant_of-self-in_err-posts c =

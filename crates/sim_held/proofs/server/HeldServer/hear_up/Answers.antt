@@ -1,8 +1,7 @@
 -- What is said has frames, and waits behind the rest.
 use Rattle.sim_held.proofs.server.HeldServer.hear_up.Goals as goal
-use Rattle.sim_held.proofs.Common.{ap, Ok, refl, subst, sym, told_to, ◌++◌, ◌∙◌}
-use Rattle.sim_held.proofs.Serving.{heard_by, own_after, own_still, ready_after}
-use Rattle.{sim_held.specs.Servers.AreSmall, sim_held.specs.Servers.waiting, sim_pipes.proofs.Telling.have_frames, sim_plain.specs.Messages.Heard}
+use Rattle.sim_held.proofs.{Common.{ap, Ok, refl, subst, sym, told_to, ◌++◌, ◌∙◌}, Serving.{heard_by, own_after, own_still, ready_after}}
+use Rattle.{sim_held.specs.Servers.{AreSmall, waiting}, sim_pipes.proofs.Telling.have_frames, sim_plain.specs.Messages.Heard}
 
 pub invariant_of-self-in_err-posts : goal.invariant_of-self-in_err-posts
 invariant_of-self-in_err-posts c =

@@ -1,5 +1,4 @@
-use Rattle.sim_merge.proofs.Common.{◌≡◌, ℕ, List, Option, AreWithin, origins_of, parents_in, subst, sym, ◌∙◌}
-use Rattle.sim_merge.proofs.KeepingLemmas.{AreWithin-parents_in}
+use Rattle.sim_merge.proofs.{Common.{AreWithin, List, Option, origins_of, parents_in, subst, sym, ℕ, ◌∙◌, ◌≡◌}, KeepingLemmas.AreWithin-parents_in}
 
 pub check_chains-requires-clause-within : Rattle.sim_merge.proofs.library.Library.resolve.Goals.check_chains-requires-clause-within
 check_chains-requires-clause-within c =

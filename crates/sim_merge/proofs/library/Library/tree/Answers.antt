@@ -1,5 +1,4 @@
-use Rattle.sim_merge.proofs.Common.{◌<◌, map, length, ap, arith, get_or-map, Holding, is_resolved, length-map, node_of, sym, ◌∙◌}
-use Rattle.sim_merge.proofs.ListLemmas.{list_all-get_or}
+use Rattle.sim_merge.proofs.{Common.{ap, arith, get_or-map, Holding, is_resolved, length, length-map, map, node_of, sym, ◌<◌, ◌∙◌}, ListLemmas.list_all-get_or}
 
 pub returns-clause-resolved : Rattle.sim_merge.proofs.library.Library.tree.Goals.returns-clause-resolved
 returns-clause-resolved c =

@@ -1,7 +1,6 @@
 -- The points of the way lie inside.
-use Rattle.sim_base.specs.{Commands.field_of, Places.IsPlaced, Ways.Way, Ways.way_of, declared.place.Point.Point}
-use Rattle.std.proofs.Common.{ap, rules, subst, sym, ◌∙◌, ◌≡◌}
-use Rattle.{sim_motion.specs.Moves.way_in, sim_plans.proofs.Bounds.ground, sim_plans.proofs.Bounds.way_placed, std.proofs.Common.All, std.proofs.Common.List}
+use Rattle.sim_base.specs.{Commands.field_of, declared.place.Point.Point, Places.IsPlaced, Ways.{Way, way_of}}
+use Rattle.{sim_motion.specs.Moves.way_in, sim_plans.proofs.Bounds.{ground, way_placed}, std.proofs.Common.{All, ap, List, rules, subst, sym, ◌∙◌, ◌≡◌}}
 
 pub invariant_of-along : Rattle.sim_motion.proofs.moves.Walker.go.Goals.invariant_of-along
 invariant_of-along g c =

@@ -1,5 +1,4 @@
-use Rattle.sim_orders.proofs.{Common.ap, Planning.answers_same}
-use Rattle.sim_orders.proofs.Common.{cond, List, [], ◌∷◌, ◌==◌, flat_map, Owner, Row}
+use Rattle.sim_orders.proofs.{Common.{ap, cond, flat_map, List, Owner, Row, [], ◌==◌, ◌∷◌}, Planning.answers_same}
 
 pub returns-clause-value : Rattle.sim_orders.proofs.task.Task.resign.Goals.returns-clause-value
 returns-clause-value c =

@@ -1,6 +1,5 @@
-use Rattle.sim_orders.proofs.{Planning.answers_same, Planning.train_there, Spots.spot_small}
-use Rattle.sim_orders.proofs.Common.{Point, row_of, spot_for, sym, template_of, Train, trains, ◌∙◌}
-use Rattle.sim_orders.proofs.Common.{◌≡◌, Bool, true, ◌&&◌, [], ◌∷◌, length, nat_lt, ◌==◌, slice_get, Some, ap, Create, eq-eqb, has_room}
+use Rattle.sim_orders.proofs.Common.{ap, Bool, Create, eq-eqb, has_room, length, nat_lt, Point, row_of, slice_get, Some, spot_for, sym, template_of, Train}
+use Rattle.sim_orders.proofs.{Common.{trains, true, [], ◌&&◌, ◌==◌, ◌∙◌, ◌∷◌, ◌≡◌}, Planning.{answers_same, train_there}, Spots.spot_small}
 use Rattle.sim_orders.proofs.task.Task.train.Goals as goal
 
 pub centre_of-requires-clause-x : goal.centre_of-requires-clause-x

@@ -1,11 +1,10 @@
 -- By distances the way is read off. Landmarks guide the search, and tell of no cost from the goal to itself.
 use Rattle.sim_path.proofs.answer.Searcher.search_by.Goals as goal
-use Rattle.sim_path.proofs.Common.{Aim, ap, ap₂, arith, Cell, estimate_to, field_of_grid, List, max, octile, octile-none, Option, subst, sym, true, ℕ, ◌*◌, ◌-◌}
-use Rattle.sim_path.specs.{Atlases.ground_in, Questions.IsSlope, Questions.slope_of, SlopeLaws.slope-floor, declared.slope.Slope.Slope}
+use Rattle.{sim_grid.specs.Grids.{is_open_at, OpenCells}, sim_path.proofs.Common.{Aim, ap, ap₂, arith, Cell, estimate_to, field_of_grid, List, max, octile}}
+use Rattle.sim_path.proofs.{Common.{octile-none, Option, subst, sym, true, ℕ, ◌*◌, ◌-◌, ◌/◌, ◌∙◌, ◌≡◌}, TightTrails.goal-end}
+use Rattle.sim_path.specs.{Atlases.ground_in, declared.slope.Slope.Slope, Questions.{IsSlope, slope_of}, SlopeLaws.slope-floor}
+use Rattle.sim_search.{proofs.Guiding.{between-self, landmarks-guide}, specs.declared.{distances.Distances.Distances, landmarks.Landmarks.Landmarks}}
 use Rattle.sim_search.specs.Rows.{AreDistances, AreLandmarks, between, number_in, row_in, size_about}
-use Rattle.sim_search.specs.declared.{distances.Distances.Distances, landmarks.Landmarks.Landmarks}
-use Rattle.{sim_grid.specs.Grids.OpenCells, sim_grid.specs.Grids.is_open_at, sim_path.proofs.Common.◌/◌, sim_path.proofs.Common.◌∙◌, sim_path.proofs.Common.◌≡◌}
-use Rattle.{sim_path.proofs.TightTrails.goal-end, sim_search.proofs.Guiding.between-self, sim_search.proofs.Guiding.landmarks-guide}
 
 -- by distances that are kept of a ground a slope is one on it
 is_slope : (kept ground : OpenCells) (start goal : Cell) (distances : Distances) (slope : Slope) → kept ≡ ground → is_open_at ground start ≡ true

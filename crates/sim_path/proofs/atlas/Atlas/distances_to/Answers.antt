@@ -1,7 +1,6 @@
 -- Distances that are kept are on the ground.
 use Rattle.sim_path.proofs.Common.{All, Cell, Field, field_of_grid, get_or, length, List, same_cell-true, subst, sym, ℕ, ◌<◌, ◌∙◌, ◌≡◌}
-use Rattle.sim_path.specs.Atlases.{AreOn, ground_in}
-use Rattle.sim_search.specs.{Rows.AreDistances, Rows.number_in, declared.distances.Distances.Distances}
+use Rattle.{sim_path.specs.Atlases.{AreOn, ground_in}, sim_search.specs.{declared.distances.Distances.Distances, Rows.{AreDistances, number_in}}}
 
 -- an item of those that are kept is on the ground
 item-on : (field : Field) (items lent : List Distances) (n : ℕ) (item other : Distances) → lent ≡ items → item ≡ get_or lent n other → n < length lent

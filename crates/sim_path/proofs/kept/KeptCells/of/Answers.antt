@@ -1,6 +1,5 @@
 -- The words that are copied tell the cells.
-use Rattle.sim_grid.specs.Packed.{ArePacked}
-use Rattle.sim_path.proofs.{Common.ap, Common.List, Common.subst, Common.sym, Common.ℕ, Common.◌++◌, Common.◌∙◌, KeptWords.kept-ground}
+use Rattle.{sim_grid.specs.Packed.ArePacked, sim_path.proofs.{Common.{ap, List, subst, sym, ℕ, ◌++◌, ◌∙◌}, KeptWords.kept-ground}}
 
 pub returns : Rattle.sim_path.proofs.kept.KeptCells.of.Goals.returns
 returns c =

@@ -1,6 +1,5 @@
-use Rattle.sim_path.proofs.Common.{arith, Cell, field_of_grid, length, List, None, same_cell-true, subst, sym, take, ◌-◌, ◌<◌, ◌∙◌}
-use Rattle.sim_path.{proofs.Remembering.at_right, specs.Atlases.ground_in, specs.Questions.AreFirst}
-use Rattle.std.proofs.{Common.drop, lemmas.List.get_or_read}
+use Rattle.sim_path.proofs.{Common.{arith, Cell, field_of_grid, length, List, None, same_cell-true, subst, sym, take, ◌-◌, ◌<◌, ◌∙◌}, Remembering.at_right}
+use Rattle.{sim_path.specs.{Atlases.ground_in, Questions.AreFirst}, std.proofs.{Common.drop, lemmas.List.get_or_read}}
 
 pub returns-then-are_of : Rattle.sim_path.proofs.remembered.Remembered.trip.Goals.returns-then-are_of
 returns-then-are_of c =

@@ -1,6 +1,5 @@
 -- Both pipes are emptied, and the server sees the cut.
-use Rattle.sim_pipes.proofs.{Common.Conveys, Common.Cut, Common.Held, Common.IsSilent, Common.server_of, Common.subst, Common.sym, Conveying.cut_off}
-use Rattle.sim_pipes.proofs.Frames.{on_ok}
+use Rattle.sim_pipes.proofs.{Common.{Conveys, Cut, Held, IsSilent, server_of, subst, sym}, Conveying.cut_off, Frames.on_ok}
 
 pub returns-clause-stands : Rattle.sim_pipes.proofs.exchange.Exchange.cut.Goals.returns-clause-stands
 returns-clause-stands c = λ setup s conv.

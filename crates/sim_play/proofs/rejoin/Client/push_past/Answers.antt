@@ -1,7 +1,6 @@
 -- One turn more is played, and has its line.
-use Rattle.sim_play.proofs.{Common.turn_line, Common.◌∙◌, Past.own_more, Past.past_lines-more, Playing.next_number}
-use Rattle.sim_play.proofs.Common.{◌≡◌, ℕ, suc, ◌+◌, ◌-◌, ◌++◌, string_bytes, ap, arith, digest, from, IsValid, own_turns, past_lines, Setup, State, subst, sym}
-use Rattle.sim_board.proofs.Keeping.{kept_on}
+use Rattle.{sim_board.proofs.Keeping.kept_on, sim_play.proofs.Common.{ap, arith, digest, from, IsValid, own_turns, past_lines, Setup, State, string_bytes}}
+use Rattle.sim_play.proofs.{Common.{subst, suc, sym, turn_line, ℕ, ◌++◌, ◌+◌, ◌-◌, ◌∙◌, ◌≡◌}, Past.{own_more, past_lines-more}, Playing.next_number}
 
 pub loop-number-preserved : Rattle.sim_play.proofs.rejoin.Client.push_past.Goals.loop-number-preserved
 loop-number-preserved g c =

@@ -1,6 +1,5 @@
 -- Those who are near ascend.
-use Rattle.sim_range.proofs.{Common.IsStrictlyIncreasing, Common.rising, Common.subst, Common.sym, Common.◌∙◌, Seeing.chosen_ups, Turning.increasing}
-use Rattle.sim_range.proofs.Nearing.{near_by}
+use Rattle.sim_range.proofs.{Common.{IsStrictlyIncreasing, rising, subst, sym, ◌∙◌}, Nearing.near_by, Seeing.chosen_ups, Turning.increasing}
 
 pub turn-requires-clause-ascending : Rattle.sim_range.proofs.crowd.Crowd.sight_of.Goals.turn-requires-clause-ascending
 turn-requires-clause-ascending c =

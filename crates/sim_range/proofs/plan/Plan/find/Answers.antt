@@ -2,10 +2,9 @@
 use Rattle.sim_range.proofs.plan.Plan.find.Goals as goal
 use Rattle.sim_range.proofs.Common.{ap, arith, below_bucket, Bucket, differ, Fact, held_in, is_seen, IsPermutation, List, list_any-IsPermutation, Plan, sees}
 use Rattle.sim_range.proofs.Common.{subst, sym, turned_seen, turned_watchers, ℕ, ◌*◌, ◌++◌, ◌<◌, ◌==◌, ◌∙◌, ◌≡◌, ◌≤◌}
-use Rattle.sim_range.proofs.Nearing.{all_below, bucket_held, lent_held, more_chosen, nothing_more, start_chosen}
-use Rattle.sim_range.proofs.Planning.{no_watchers, none_in_sight, none_in_view, none_turned, pass_view, pass_watchers}
-use Rattle.sim_range.proofs.plan.Plan.find.Goals.{else-has, else-has-via-else-has, else-has-via-then-has+else-not-is_inner}
-use Rattle.sim_range.proofs.{Seeing.agree_elsewhere, plan.Plan.find.Goals.then-has+then-not-is_inner+in_ok-push}
+use Rattle.sim_range.proofs.{Nearing.{all_below, bucket_held, lent_held, more_chosen, nothing_more, start_chosen}, plan.Plan.find.Goals.else-has}
+use Rattle.sim_range.proofs.plan.Plan.find.Goals.{else-has-via-else-has, else-has-via-then-has+else-not-is_inner, then-has+then-not-is_inner+in_ok-push}
+use Rattle.sim_range.proofs.{Planning.{no_watchers, none_in_sight, none_in_view, none_turned, pass_view, pass_watchers}, Seeing.agree_elsewhere}
 
 pub loop-number-init : goal.loop-number-init
 loop-number-init c =

@@ -1,6 +1,5 @@
 -- It begins with what the entity saw, which is nothing where it was not kept.
-use Rattle.sim_range.proofs.plan.Plan.find_own.Goals.{in_default-place_of}
-use Rattle.sim_range.proofs.{Common.Plan, Common.ap, Common.◌∙◌, Watching.saw, Watching.saw_none, plan.Plan.find_own.Goals.in-Ok+in_ok-copy_from}
+use Rattle.sim_range.proofs.{Common.{ap, Plan, ◌∙◌}, plan.Plan.find_own.Goals.{in-Ok+in_ok-copy_from, in_default-place_of}, Watching.{saw, saw_none}}
 
 pub turn_own-requires-clause-own : Rattle.sim_range.proofs.plan.Plan.find_own.Goals.turn_own-requires-clause-own
 turn_own-requires-clause-own c =

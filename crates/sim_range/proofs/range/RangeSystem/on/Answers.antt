@@ -1,8 +1,7 @@
 -- The buckets and the sights after the note are those of the facts after it.
 use Rattle.sim_range.proofs.range.RangeSystem.on.Goals as goal
 use Rattle.sim_range.proofs.Common.{ap, ArePlaced, arith, Fact, has_land, held_in, List, noted, put_is, put_named, Range as RangeKind, SeesFrom, SeesWithin}
-use Rattle.sim_range.proofs.Common.{subst, sym, with_only, ◌∙◌}
-use Rattle.sim_range.proofs.Lending.{found_for, found_held, found_is, kept_along, part_held, ready_along}
+use Rattle.sim_range.proofs.{Common.{subst, sym, with_only, ◌∙◌}, Lending.{found_for, found_held, found_is, kept_along, part_held, ready_along}}
 use Rattle.sim_range.proofs.Nearing.{found_placed, noted_buckets, part_placed, placed_after, still_built}
 
 pub make_ready-requires : goal.make_ready-requires

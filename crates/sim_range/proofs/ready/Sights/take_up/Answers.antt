@@ -1,7 +1,6 @@
 -- What an entity sees itself does not depend on it.
 use Rattle.sim_range.proofs.ready.Sights.take_up.Goals as goal
-use Rattle.sim_range.proofs.Common.{AreChanging, Fact, Holds, List, SeesFrom, SeesWithin, fact_with, subst, sym}
-use Rattle.sim_range.proofs.{Lending.all_only, Lending.taken_up, Seeing.own_is}
+use Rattle.sim_range.proofs.{Common.{AreChanging, Fact, fact_with, Holds, List, SeesFrom, SeesWithin, subst, sym}, Lending.{all_only, taken_up}, Seeing.own_is}
 
 pub invariant_of-held : goal.invariant_of-held
 invariant_of-held c = record {

@@ -1,6 +1,5 @@
 -- A search by halves finds the id, or where it belongs.
-use Rattle.sim_range.proofs.Common.{Bool, ap, sym, turned, ◌∙◌}
-use Rattle.sim_range.proofs.Turning.{comes_again, comes_new, goes, goes_not, is_new, ok_ids}
+use Rattle.sim_range.proofs.{Common.{ap, Bool, sym, turned, ◌∙◌}, Turning.{comes_again, comes_new, goes, goes_not, is_new, ok_ids}}
 use Rattle.sim_range.proofs.sight.Sight.turn.Goals as goal
 
 pub returns-in-Ok-true : goal.returns-in-Ok-true

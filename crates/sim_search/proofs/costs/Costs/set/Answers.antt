@@ -1,6 +1,5 @@
 use Rattle.sim_search.proofs.Common.{ap, arith, Cell, cond-true, Entry, entry_at, eq-eqb, eqb, known, length, length-map, List, map, map-set, None, Option}
-use Rattle.sim_search.proofs.Common.{read_entry, refl, set, size_of, Some, ℕ, ◌*◌, ◌∙◌, ◌≡◌}
-use Rattle.sim_search.proofs.Rows.{entry_at-set_other, entry_at-set_same}
+use Rattle.sim_search.proofs.{Common.{read_entry, refl, set, size_of, Some, ℕ, ◌*◌, ◌∙◌, ◌≡◌}, Rows.{entry_at-set_other, entry_at-set_same}}
 
 pub returns : Rattle.sim_search.proofs.costs.Costs.set.Goals.returns
 returns c =

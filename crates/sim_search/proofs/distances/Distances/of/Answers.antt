@@ -1,7 +1,6 @@
 -- The numbers are made one after another of the costs at the same places.
-use Rattle.sim_search.proofs.Common.{[], ◌++◌, ◌∙◌, ◌∷◌, ◌≡◌, ◌≤◌, ap, ap₂, arith, Costs, entry_at, known, length, length-map, List, map, None, read_entry}
-use Rattle.sim_search.proofs.Common.{refl, size_of, sym, take, take_all, ℕ}
-use Rattle.{sim_search.proofs.Rows.entry_at-map, sim_search.specs.Rows.number_of, std.proofs.lemmas.List.map_more}
+use Rattle.sim_search.proofs.Common.{ap, ap₂, arith, Costs, entry_at, known, length, length-map, List, map, None, read_entry, refl, size_of, sym, take}
+use Rattle.{sim_search.{proofs.{Common.{take_all, ℕ, [], ◌++◌, ◌∙◌, ◌∷◌, ◌≡◌, ◌≤◌}, Rows.entry_at-map}, specs.Rows.number_of}, std.proofs.lemmas.List.map_more}
 use Rattle.sim_search.proofs.distances.Distances.of.Goals as goal
 
 pub loop-place-preserved : goal.loop-place-preserved

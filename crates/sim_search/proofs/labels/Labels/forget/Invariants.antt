@@ -1,5 +1,4 @@
-use Rattle.sim_search.proofs.Common.{◌≡◌, ◌⊎◌, All, Cell, Contains, None, take}
-use Rattle.sim_search.specs.Floods.{label_in}
+use Rattle.sim_search.{proofs.Common.{All, Cell, Contains, None, take, ◌≡◌, ◌⊎◌}, specs.Floods.label_in}
 
 abbrev pub invariant-loop-cell : Rattle.sim_search.proofs.labels.Labels.forget.Given.invariant-loop-cell
 invariant-loop-cell l = record {

@@ -1,9 +1,8 @@
 -- One cell more has the label.
 use Rattle.sim_search.proofs.labels.Labels.give.Goals as goal
-use Rattle.sim_search.proofs.Common.{All-get_or, All-weaker, Cell, Contains, Contains-get_or, get_or, inl, inr, IsOnGround, List, Size, Some, subst, sym, take}
-use Rattle.sim_search.proofs.{Added.gone_through, Common.ℕ, Common.⊎_elim, Common.◌∙◌, Common.◌≡◌, Common.◌≢◌, Common.◌⊎◌}
-use Rattle.std.proofs.lemmas.List.Elements.{All-more}
-use Rattle.{sim_grid.proofs.Beside.same_or_not, sim_search.specs.Floods.HasRoom, sim_search.specs.Floods.label_in, std.proofs.lemmas.List.Elements.All-contains}
+use Rattle.{sim_grid.proofs.Beside.same_or_not, sim_search.proofs.{Added.gone_through, Common.{All-get_or, All-weaker, Cell, Contains, Contains-get_or}}}
+use Rattle.sim_search.proofs.Common.{get_or, inl, inr, IsOnGround, List, Size, Some, subst, sym, take, ℕ, ⊎_elim, ◌∙◌, ◌≡◌, ◌≢◌, ◌⊎◌}
+use Rattle.{sim_search.specs.Floods.{HasRoom, label_in}, std.proofs.lemmas.List.Elements.{All-contains, All-more}}
 
 pub set-requires : goal.set-requires
 set-requires c = subst (λ (size : Size). IsOnGround size (get_or c.args.cells.now c.loop-cell.cell-index (record { x = 0; z = 0 })))

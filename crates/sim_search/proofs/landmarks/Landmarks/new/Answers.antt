@@ -1,7 +1,6 @@
 -- The rows are made one after another of the costs at the same places.
-use Rattle.sim_search.proofs.Common.{[], ◌++◌, ◌∙◌, ◌∷◌, ◌≡◌, ◌≤◌, ap, ap₂, arith, Costs, entry_at, known, length, length-map, List, map, None, Option}
-use Rattle.sim_search.proofs.Common.{read_entry, refl, size_of, sym, take, take_all, ℕ}
-use Rattle.{sim_search.proofs.Rows.entry_at-map, sim_search.specs.Rows.alike, std.proofs.lemmas.List.map_more}
+use Rattle.sim_search.proofs.Common.{ap, ap₂, arith, Costs, entry_at, known, length, length-map, List, map, None, Option, read_entry, refl, size_of, sym, take}
+use Rattle.{sim_search.{proofs.{Common.{take_all, ℕ, [], ◌++◌, ◌∙◌, ◌∷◌, ◌≡◌, ◌≤◌}, Rows.entry_at-map}, specs.Rows.alike}, std.proofs.lemmas.List.map_more}
 use Rattle.sim_search.proofs.landmarks.Landmarks.new.Goals as goal
 
 pub loop-place-preserved : goal.loop-place-preserved

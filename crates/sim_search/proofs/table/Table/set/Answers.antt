@@ -1,5 +1,4 @@
-use Rattle.sim_search.proofs.Common.{ap, arith, length, None, refl, set, size_in, Some, ℕ, ◌*◌, ◌≡◌}
-use Rattle.sim_search.proofs.Rows.{entry_at-set_other, entry_at-set_same}
+use Rattle.sim_search.proofs.{Common.{ap, arith, length, None, refl, set, size_in, Some, ℕ, ◌*◌, ◌≡◌}, Rows.{entry_at-set_other, entry_at-set_same}}
 
 pub returns : Rattle.sim_search.proofs.table.Table.set.Goals.returns
 returns c =

@@ -1,6 +1,5 @@
 -- The client is out, turns are released, and those that waited for it are seated anew.
-use Rattle.sim_server.proofs.{Common.Ok, Common.refl, Common.Cut, Common.false≢true, Silence.cut_alone, Silence.cut_stays, Silence.silent, Whole.whole_cut}
-use Rattle.sim_server.proofs.Made.{answers, is_cut}
+use Rattle.sim_server.proofs.{Common.{Cut, false≢true, Ok, refl}, Made.{answers, is_cut}, Silence.{cut_alone, cut_stays, silent}, Whole.whole_cut}
 use Rattle.sim_server.proofs.server.Server.cut.Goals as goal
 
 pub invariant_of-self : goal.invariant_of-self

@@ -1,8 +1,7 @@
 -- Every client is off, and nothing has been said.
 use Rattle.sim_session.proofs.session.Session.new.Goals as goal
-use Rattle.sim_session.proofs.Common.{Off, refl, rigs_by, sym, systems_by, ◌-◌, ◌∙◌, ◌≡◌, ◌≤◌}
 use Rattle.sim_session.proofs.Common.{ap, arith, get_or-replicate, HaveKinds, length, length-drop, length-map, length-replicate, life_at, life_of, lives_of}
-use Rattle.sim_session.proofs.{Opening.opens, Stepping.holds_in_front}
+use Rattle.sim_session.proofs.{Common.{Off, refl, rigs_by, sym, systems_by, ◌-◌, ◌∙◌, ◌≡◌, ◌≤◌}, Opening.opens, Stepping.holds_in_front}
 
 pub returns-clause-session : goal.returns-clause-session
 returns-clause-session g c =

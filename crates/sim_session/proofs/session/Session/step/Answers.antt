@@ -1,9 +1,8 @@
 -- One client acts in its place in the list, and all others are as they were.
 use Rattle.sim_session.proofs.session.Session.step.Goals as goal
-use Rattle.sim_session.proofs.Beside.{then_ok, then_on}
-use Rattle.sim_session.proofs.Common.{All-set, ap, AreBuilt, AreBuiltIf, arith, ChangeAt, client_of, Event, events_by, get_or, has_load, IsMemberBy, length}
-use Rattle.sim_session.proofs.Common.{length-set, life_at, List, lives_of, Makes, refl, rules, session, set, Setup, stepped_by, subst, sym, systems_by}
-use Rattle.sim_session.proofs.Common.{systems_on, vec_capacity, ◌+◌, ◌-◌, ◌<◌, ◌∙◌, ◌≤◌}
+use Rattle.sim_session.proofs.{Beside.{then_ok, then_on}, Common.{All-set, ap, AreBuilt, AreBuiltIf, arith, ChangeAt, client_of, Event, events_by, get_or}}
+use Rattle.sim_session.proofs.Common.{has_load, IsMemberBy, length, length-set, life_at, List, lives_of, Makes, refl, rules, session, set, Setup, stepped_by}
+use Rattle.sim_session.proofs.Common.{subst, sym, systems_by, systems_on, vec_capacity, ◌+◌, ◌-◌, ◌<◌, ◌∙◌, ◌≤◌}
 use Rattle.sim_session.proofs.Stepping.{changed, events_are, goes_on_at, kinds_put, one_beside, some_beside, stepped_is, was_there}
 
 pub act-requires-clause-may : goal.act-requires-clause-may

@@ -1,8 +1,7 @@
 -- The deeds of the turn are done by players of the match, the commands are no turn, and all parts together make a paid turn.
-use Rattle.sim_stock.proofs.Common.{State, state_in, subst, sym, ◌∙◌}
-use Rattle.sim_stock.proofs.Common.{◌+◌, All, ap, arith, Books, books_of, DatedDeed, deeds_at, IsDatedDeed, IsEconomy, IsNonDecreasingBy, Setup, setup_in}
-use Rattle.{sim_base.proofs.Lists.on_ok, sim_board.proofs.Keeping.kept_on, sim_stock.proofs.Common.refl}
-use Rattle.sim_stock.proofs.Paying.{few_dealers, joined, joined_state, joined_valid, obeyed_keep_turn}
+use Rattle.{sim_base.proofs.Lists.on_ok, sim_board.proofs.Keeping.kept_on}
+use Rattle.sim_stock.proofs.Common.{All, ap, arith, Books, books_of, DatedDeed, deeds_at, IsDatedDeed, IsEconomy, IsNonDecreasingBy, refl, Setup, setup_in}
+use Rattle.sim_stock.proofs.{Common.{State, state_in, subst, sym, ◌+◌, ◌∙◌}, Paying.{few_dealers, joined, joined_state, joined_valid, obeyed_keep_turn}}
 use Rattle.sim_stock.proofs.market.Market.paid_turn.Goals as goal
 
 pub overflow_add-turn : goal.overflow_add-turn

@@ -1,6 +1,5 @@
 -- The income is that of the rows which the rest of the turn leaves.
-use Rattle.sim_stock.proofs.Common.{◌≡◌, ◌≤◌, length, All, ap, arith, Row, setup_in, State, state_in, subst, sym, ◌∙◌}
-use Rattle.sim_stock.proofs.Paying.{few_owners, settled_is}
+use Rattle.sim_stock.proofs.{Common.{All, ap, arith, length, Row, setup_in, State, state_in, subst, sym, ◌∙◌, ◌≡◌, ◌≤◌}, Paying.{few_owners, settled_is}}
 use Rattle.sim_stock.proofs.market.Market.settle.Goals as goal
 
 pub collect-requires-clause-owners : goal.collect-requires-clause-owners

@@ -1,8 +1,7 @@
 -- A line is heard, piece by piece.
-use Rattle.std.proofs.lemmas.List.{nil_from_length}
-use Rattle.std.proofs.Common.{◌≡◌, [], Err, inr, refl, rules, subst, sym, ◌∙◌}
 use Rattle.sim_talk.proofs.Hearing.{heard_end, heard_failed, heard_much, heard_no_more, heard_whole, open_part, taken_on}
-use Rattle.sim_talk.specs.{Ahead.bytes_ahead, Lines.IsPart, Lines.Pours, Lines.PoursOpen, Lines.PoursTooMuch, Lines.PoursWhole}
+use Rattle.sim_talk.specs.{Ahead.bytes_ahead, Lines.{IsPart, Pours, PoursOpen, PoursTooMuch, PoursWhole}}
+use Rattle.std.proofs.{Common.{Err, inr, refl, rules, subst, sym, [], ◌∙◌, ◌≡◌}, lemmas.List.nil_from_length}
 use Rattle.sim_talk.specs.declared.fault.HearFault.TheVariants as fault
 use Rattle.sim_talk.proofs.line_talk.LineTalk.read_line.Goals as goal
 

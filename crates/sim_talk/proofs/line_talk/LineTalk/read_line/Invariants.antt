@@ -1,7 +1,6 @@
 -- The line so far is what was taken of the input, and nothing has failed. Nothing is kept where the input was read, or is to be read.
-use Rattle.std.proofs.Common.{◌≡◌, ◌+◌, ◌-◌, ◌⊎◌, [], length}
-use Rattle.std.specs.Io.KnownBytes.{Consumes, prepend_known}
-use Rattle.sim_talk.specs.{Ahead.bytes_ahead, Kept.bytes_kept, Lines.IsPart, Lines.IsWithinLine}
+use Rattle.sim_talk.specs.{Ahead.bytes_ahead, Kept.bytes_kept, Lines.{IsPart, IsWithinLine}}
+use Rattle.std.{proofs.Common.{length, [], ◌+◌, ◌-◌, ◌≡◌, ◌⊎◌}, specs.Io.KnownBytes.{Consumes, prepend_known}}
 
 abbrev pub invariant-pieces : Rattle.sim_talk.proofs.line_talk.LineTalk.read_line.Given.invariant-pieces
 invariant-pieces g l = record {

@@ -1,8 +1,7 @@
 -- What was kept was written, and then no line was heard.
 use Rattle.sim_talk.specs.declared.fault.TalkFault.TheVariants as ends
-use Rattle.sim_talk.specs.{Ahead.bytes_ahead, Kept.bytes_kept, LineTalk.piped, Lines.MissesOf, Lines.ReadCounts, Talks.Hears, Talks.History, Talks.Says}
-use Rattle.std.proofs.Common.{[], ap, Err, rules, subst, sym, ◌∙◌, ◌≡◌}
-use Rattle.{sim_talk.proofs.Talking.misses_piped, sim_talk.proofs.Talking.says_on, std.specs.Io.KnownBytes.prepend_known}
+use Rattle.sim_talk.{proofs.Talking.{misses_piped, says_on}, specs.{Ahead.bytes_ahead, Kept.bytes_kept, Lines.{MissesOf, ReadCounts}, LineTalk.piped}}
+use Rattle.{sim_talk.specs.Talks.{Hears, History, Says}, std.{proofs.Common.{ap, Err, rules, subst, sym, [], ◌∙◌, ◌≡◌}, specs.Io.KnownBytes.prepend_known}}
 
 pub returns-in_err-read_line-clause-passed : Rattle.sim_talk.proofs.line_talk.LineTalkTalk.hear.Goals.returns-in_err-read_line-clause-passed
 returns-in_err-read_line-clause-passed g c =

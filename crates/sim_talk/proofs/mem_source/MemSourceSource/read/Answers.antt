@@ -1,8 +1,7 @@
 -- What was to come is what was copied to the buffer and what is to come now; and where nothing was copied though there was room,
 -- nothing was to come.
-use Rattle.std.{proofs.lemmas.List.length-take-le, specs.Prelude.min}
-use Rattle.std.proofs.Common.{◌≡◌, ℕ, ◌-◌, ◌≤◌, List, length, take, drop, ap, arith, rules, subst, ◌∙◌}
 use Rattle.sim_talk.proofs.Reading.{drop-read, nothing_left, slice_from}
+use Rattle.std.{proofs.{Common.{ap, arith, drop, length, List, rules, subst, take, ℕ, ◌-◌, ◌∙◌, ◌≡◌, ◌≤◌}, lemmas.List.length-take-le}, specs.Prelude.min}
 
 pub returns-clause-moves : Rattle.sim_talk.proofs.mem_source.MemSourceSource.read.Goals.returns-clause-moves
 returns-clause-moves c =

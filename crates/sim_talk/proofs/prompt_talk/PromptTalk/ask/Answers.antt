@@ -1,6 +1,5 @@
 -- What was counted where the other talk asks.
-use Rattle.sim_talk.{proofs.Prompting.heard_read, proofs.Prompting.heard_wrote, specs.LineTalk.HearCounts, specs.LineTalk.WriteCounts}
-use Rattle.std.proofs.Common.{ℕ, subst}
+use Rattle.{sim_talk.{proofs.Prompting.{heard_read, heard_wrote}, specs.LineTalk.{HearCounts, WriteCounts}}, std.proofs.Common.{subst, ℕ}}
 
 pub returns : Rattle.sim_talk.proofs.prompt_talk.PromptTalk.ask.Goals.returns
 returns g c = record {

@@ -1,5 +1,4 @@
-use Rattle.sim_territory.proofs.Common.{◌≡◌, ◌*◌, ◌≤◌, length, ap, arith, influences_in, RealmOf, subst, sym, ◌∙◌}
-use Rattle.sim_territory.proofs.Keeping.{layer_listed}
+use Rattle.sim_territory.proofs.{Common.{ap, arith, influences_in, length, RealmOf, subst, sym, ◌*◌, ◌∙◌, ◌≡◌, ◌≤◌}, Keeping.layer_listed}
 
 pub returns : Rattle.sim_territory.proofs.realm.Realm.influence.Goals.returns
 returns c =

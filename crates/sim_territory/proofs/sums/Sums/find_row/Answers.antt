@@ -1,6 +1,5 @@
 -- One cell more has its holder.
-use Rattle.sim_territory.proofs.Common.{◌≡◌, ℕ, ◌+◌, ◌*◌, length, AreFound, arith, subst}
-use Rattle.sim_territory.proofs.Finding.{found_cell, found_none, no_column}
+use Rattle.sim_territory.proofs.{Common.{AreFound, arith, length, subst, ℕ, ◌*◌, ◌+◌, ◌≡◌}, Finding.{found_cell, found_none, no_column}}
 use Rattle.sim_territory.proofs.sums.Sums.find_row.Goals as goal
 
 pub loop-x-init : goal.loop-x-init

@@ -1,6 +1,5 @@
 -- One player more is looked at.
-use Rattle.sim_territory.proofs.Common.{ℕ, ◌+◌, arith, subst, sum_at, sym}
-use Rattle.sim_territory.proofs.Holding.{best_begins, best_is, best_keeps, best_takes, IsBestBefore}
+use Rattle.sim_territory.proofs.{Common.{arith, subst, sum_at, sym, ℕ, ◌+◌}, Holding.{best_begins, best_is, best_keeps, best_takes, IsBestBefore}}
 use Rattle.sim_territory.proofs.sums.Sums.holder.Goals.{else-influence-most, then-influence-most}
 use Rattle.sim_territory.proofs.sums.Sums.holder.Goals as goal
 

@@ -1,6 +1,5 @@
 -- One row more is changed.
-use Rattle.sim_territory.proofs.Common.{◌≡◌, ℕ, arith, share_where, subst, SumsMove}
-use Rattle.sim_territory.proofs.Moving.{in_rows, place-later, rows_begin, rows_end, rows_may, rows_move}
+use Rattle.sim_territory.proofs.{Common.{arith, share_where, subst, SumsMove, ℕ, ◌≡◌}, Moving.{in_rows, place-later, rows_begin, rows_end, rows_may, rows_move}}
 use Rattle.sim_territory.proofs.sums.Sums.shift_building.Goals as goal
 
 pub loop-z-init : goal.loop-z-init

@@ -1,7 +1,6 @@
 -- One cell more of the row is changed.
-use Rattle.sim_territory.proofs.Common.{share_where, size_in, strength_of, subst, sum_place, SumsMove, sym, ◌∙◌}
-use Rattle.sim_territory.proofs.Common.{◌≡◌, ℕ, ◌+◌, ◌*◌, ◌<◌, ◌≤◌, length, get_or, refl, abs_diff, ap, arith, get_or_default, in_part, MayMove, Moves}
-use Rattle.sim_territory.proofs.Moving.{part_begins}
+use Rattle.sim_territory.proofs.Common.{abs_diff, ap, arith, get_or, get_or_default, in_part, length, MayMove, Moves, refl, share_where, size_in, strength_of}
+use Rattle.sim_territory.proofs.{Common.{subst, sum_place, SumsMove, sym, ℕ, ◌*◌, ◌+◌, ◌<◌, ◌∙◌, ◌≡◌, ◌≤◌}, Moving.part_begins}
 use Rattle.sim_territory.proofs.RowSteps.{along_row, cell_on, step_may, step_moves, step_within, strength-on}
 use Rattle.sim_territory.proofs.sums.Sums.shift_west.Goals as goal
 

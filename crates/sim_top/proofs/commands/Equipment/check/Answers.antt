@@ -1,12 +1,11 @@
 -- The match and a log of it were read and the one was played by the other, or one could not be read.
 use Rattle.sim_top.proofs.commands.Equipment.check.Goals as goal
-use Rattle.sim_base.specs.declared.{command.PlayerCommand.PlayerCommand, memory.OutOfMemory.OutOfMemory}
-use Rattle.sim_top.proofs.Common.{All, Answer, ap, AreFed, arith, bytes_in, check_outcome, digests_after, Err, File, IfOk, IsAnswerTo, List, Log, match_in, Ok}
-use Rattle.sim_top.proofs.Common.{OnOk, refl, Result, RigsCameBackBy, rules, Setup, shelved, Some, StandForLog, state_after, status_made, Stop, subst, sym}
-use Rattle.sim_top.proofs.Returning.{kind_of_first, rigs_left, room_for, stands_read}
-use Rattle.sim_top.proofs.{Answering.match_ends, Checking.check_ends, Checking.check_opens, Checking.log_ends, Checking.log_goes_on, Checking.log_stands}
-use Rattle.sim_top.proofs.{Common.systems_by, Common.to_check, Common.ℕ, Common.◌∙◌, Common.◌≡◌, Playing.is_made, Playing.made_if, Returning.first_played}
-use Rattle.{sim_laws.specs.TurnLaws.IsOrderOf, sim_top.specs.Outcome.check_by, sim_top.specs.Stops.HasPlayedBy}
+use Rattle.{sim_base.specs.declared.{command.PlayerCommand.PlayerCommand, memory.OutOfMemory.OutOfMemory}, sim_laws.specs.TurnLaws.IsOrderOf}
+use Rattle.sim_top.proofs.{Answering.match_ends, Checking.{check_ends, check_opens, log_ends, log_goes_on, log_stands}, Common.{All, Answer, ap, AreFed, arith}}
+use Rattle.sim_top.proofs.Common.{bytes_in, check_outcome, digests_after, Err, File, IfOk, IsAnswerTo, List, Log, match_in, Ok, OnOk, refl, Result}
+use Rattle.sim_top.proofs.Common.{RigsCameBackBy, rules, Setup, shelved, Some, StandForLog, state_after, status_made, Stop, subst, sym, systems_by, to_check, ℕ}
+use Rattle.sim_top.proofs.{Common.{◌∙◌, ◌≡◌}, Playing.{is_made, made_if}, Returning.{first_played, kind_of_first, rigs_left, room_for, stands_read}}
+use Rattle.sim_top.specs.{Outcome.check_by, Stops.HasPlayedBy}
 
 -- the digests that were played, beside those of the log
 same_outcome : (r : Result (List (List ℕ)) OutOfMemory) (setup : Setup) (log : Log) (turns : List (List PlayerCommand)) → turns ≡ log.turns

@@ -1,9 +1,8 @@
 -- The match was read and its states were told, or it could not be read.
-use Rattle.sim_top.proofs.Common.{after, Answer, AreFed, Done, Err, File, film_text, IsAnswerTo, List, match_in, Outcome, own_turns, printed, refl, Result}
-use Rattle.sim_top.proofs.Common.{rules, shelved, status_made, subst, sym, systems_by, to_film, ℕ, ◌∙◌, ◌≡◌}
-use Rattle.sim_top.proofs.{Answering.Opens, Answering.match_ends, Answering.match_goes_on, Common.RigsCameBackBy, Common.Setup, Common.Some, Common.Stop}
-use Rattle.sim_top.proofs.{Playing.played_if, Playing.text_made, Returning.first_played, Returning.kind_of_first, Returning.rigs_left, Returning.room_for}
-use Rattle.sim_top.proofs.{Returning.stands_read, Returning.whatever_held, Stopping.Then-ended, Stopping.Then-read}
+use Rattle.sim_top.proofs.{Answering.{match_ends, match_goes_on, Opens}, Common.{after, Answer, AreFed, Done, Err, File, film_text, IsAnswerTo, List, match_in}}
+use Rattle.sim_top.proofs.Common.{Outcome, own_turns, printed, refl, Result, RigsCameBackBy, rules, Setup, shelved, Some, status_made, Stop, subst, sym}
+use Rattle.sim_top.proofs.{Common.{systems_by, to_film, ℕ, ◌∙◌, ◌≡◌}, Playing.{played_if, text_made}}
+use Rattle.sim_top.proofs.{Returning.{first_played, kind_of_first, rigs_left, room_for, stands_read, whatever_held}, Stopping.{Then-ended, Then-read}}
 use Rattle.sim_top.proofs.commands.Equipment.film.Goals as goal
 
 -- what comes of the match

@@ -1,10 +1,9 @@
 -- The match was read and played to the turn, or it could not be read, or has not the turn.
-use Rattle.sim_top.proofs.Common.{NoSuchTurn, Ok, Outcome, own_turns, printed, RealmAt, refl, refusal_text, Result, RigsCameBackBy, rules, Setup, shelved, Some}
-use Rattle.sim_top.proofs.Common.{after, Answer, ap, AreFed, Err, File, HasEnded, IsAnswerTo, IsOutcomeOf, IsRealmOutcome, List, match_in, MayFinish}
-use Rattle.sim_top.proofs.Returning.{kind_of_first, one_played, rigs_left, room_for, stands_read, was_played_as, whatever_held}
-use Rattle.sim_top.proofs.{Answering.Opens, Common.Stop, Common.Turn, Common.sym, Common.to_realm, Common.ℕ, Common.◌∙◌, Common.◌≡◌, Playing.played_if}
-use Rattle.sim_top.proofs.{Answering.match_ends, Answering.match_goes_on_as, Answering.match_there, Answering.turn_ends_at, Stopping.Then-ended, Stopping.Told}
-use Rattle.sim_top.proofs.{Common.status_made, Common.subst, Common.systems_by, Playing.realm_done, Playing.realm_made, Playing.realm_past, Stopping.Then-read}
+use Rattle.sim_top.proofs.{Answering.{match_ends, match_goes_on_as, match_there, Opens, turn_ends_at}, Common.{after, Answer, ap, AreFed, Err, File, HasEnded}}
+use Rattle.sim_top.proofs.Common.{IsAnswerTo, IsOutcomeOf, IsRealmOutcome, List, match_in, MayFinish, NoSuchTurn, Ok, Outcome, own_turns, printed, RealmAt}
+use Rattle.sim_top.proofs.Common.{refl, refusal_text, Result, RigsCameBackBy, rules, Setup, shelved, Some, status_made, Stop, subst, sym, systems_by, to_realm}
+use Rattle.sim_top.proofs.{Common.{Turn, ℕ, ◌∙◌, ◌≡◌}, Playing.{played_if, realm_done, realm_made, realm_past}, Returning.kind_of_first}
+use Rattle.sim_top.proofs.{Returning.{one_played, rigs_left, room_for, stands_read, was_played_as, whatever_held}, Stopping.{Then-ended, Then-read, Told}}
 use Rattle.sim_top.proofs.commands.Equipment.realm.Goals as goal
 
 opens : (game : List ℕ) (turn : ℕ) → Opens (to_realm game turn) game (λ files. match_in files game)

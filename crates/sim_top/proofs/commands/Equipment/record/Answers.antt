@@ -1,15 +1,13 @@
 -- The match and the steps were read and the session recorded, or one could not be read.
 use Rattle.sim_top.proofs.commands.Equipment.record.Goals as goal
-use Rattle.sim_session.specs.{Going.rigs_by, Laws.AllBuiltAtMost, Laws.builds_of, Recording.released_turns}
-use Rattle.sim_top.proofs.Common.{All, Answer, ap, arith, codes, drop, Err, File, HaveKinds, IfSome, IsAnswerTo, IsMade, length, List, log_after, logged_as, Ok}
-use Rattle.sim_top.proofs.Common.{Option, OutOfMemory, refl, Result, RigsCameBackBy, rules, session_match_in, session_of, shelved, Some, state_after}
-use Rattle.sim_top.proofs.Recorded.{behind_first, few_released, first_built, of_ok, record_ends, record_goes_on, record_opens, recorded_so, released_players}
-use Rattle.sim_top.proofs.{Answering.match_ends, Common.Stop, Common.status_made, Common.steps_in, Common.subst, Common.sym, Common.systems_by}
-use Rattle.sim_top.proofs.{Common.to_record, Common.◌∙◌, Common.◌≡◌, Common.◌≤◌, Returning.All-unmap, Returning.record_played, Returning.rigs_left}
-use Rattle.std.specs.Prelude.{vec_capacity, ◌==◌}
 use Rattle.{sim_base.specs.declared.command.PlayerCommand.PlayerCommand, sim_client.specs.StageWords.AreCleared, sim_laws.specs.TurnLaws.IsOrderOf}
-use Rattle.{sim_session.proofs.Builds.all_built_so, sim_session.proofs.Builds.none_built, sim_top.specs.Outcome.builds_with_log}
-use Rattle.{sim_top.specs.Stops.HasPlayedBy, sim_top.specs.Stops.OfFirsts, std.proofs.lemmas.List.Elements.All-map, std.specs.Prelude.if◌then◌else◌}
+use Rattle.sim_session.{proofs.Builds.{all_built_so, none_built}, specs.{Going.rigs_by, Laws.{AllBuiltAtMost, builds_of}, Recording.released_turns}}
+use Rattle.sim_top.proofs.{Answering.match_ends, Common.{All, Answer, ap, arith, codes, drop, Err, File, HaveKinds, IfSome, IsAnswerTo, IsMade, length, List}}
+use Rattle.sim_top.proofs.Common.{log_after, logged_as, Ok, Option, OutOfMemory, refl, Result, RigsCameBackBy, rules, session_match_in, session_of, shelved}
+use Rattle.sim_top.proofs.Common.{Some, state_after, status_made, steps_in, Stop, subst, sym, systems_by, to_record, ◌∙◌, ◌≡◌, ◌≤◌}
+use Rattle.sim_top.proofs.Recorded.{behind_first, few_released, first_built, of_ok, record_ends, record_goes_on, record_opens, recorded_so, released_players}
+use Rattle.sim_top.{proofs.Returning.{All-unmap, record_played, rigs_left}, specs.{Outcome.builds_with_log, Stops.{HasPlayedBy, OfFirsts}}}
+use Rattle.std.{proofs.lemmas.List.Elements.All-map, specs.Prelude.{if◌then◌else◌, vec_capacity, ◌==◌}}
 
 pub returns-in_err-setup-clause-answer : goal.returns-in_err-setup-clause-answer
 returns-in_err-setup-clause-answer g c =
@@ -134,8 +132,11 @@ returns-in_err-turns-clause-back g c =
     c.in_ok-setup.ensures.read.reading.same c.in_ok-list.ensures.tells)
     (record { answers = tt; stops = refl }) tt tt built
     (came.back.spare ∙ ap (λ rigs. drop setup.players rigs.items) was) c.requires.eight
-    (record { count = came.back.eight; kinds = All-unmap HaveKinds (λ rig. systems_by rig (λ i v. (goal.System-dyn g (i, v)).meaning v)) back.items
-    came.back.kinds })
+    (record {
+      count = came.back.eight;
+      kinds = All-unmap HaveKinds (λ rig. systems_by rig (λ i v. (goal.System-dyn g (i, v)).meaning v)) back.items
+          came.back.kinds;
+    })
     (came.back.room ∙ ap (λ rigs. vec_capacity rigs) was))
 
 pub returns-clause-answer : goal.returns-clause-answer

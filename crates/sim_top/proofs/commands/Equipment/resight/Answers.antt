@@ -1,9 +1,8 @@
 -- The match, the state and the explored cells were read and the match played on, or one of them could not be read.
-use Rattle.sim_top.proofs.Common.{Answer, bytes_in, end_from, Err, File, IsAnswerTo, IsSeenFrom, IsState, List, match_in, Ok, refl, Result, RigsCameBackBy}
-use Rattle.sim_top.proofs.Common.{rules, Setup, shelved, Some, StandForStored, status_made, Stop, subst, sym, systems_by, to_resight, ◌∙◌, ◌≡◌}
-use Rattle.sim_top.proofs.Returning.{one_played, rigs_left, room_for, stands_read, stored_stands, was_played_as}
-use Rattle.sim_top.proofs.Sighting.{loads, map_ends, map_goes_on, seen_ended, sight_made, with_map}
-use Rattle.sim_top.proofs.{Answering.both_given, Answering.both_told, Answering.match_ends, Answering.stored_ends, Playing.played_if, Returning.kind_of_first}
+use Rattle.sim_top.proofs.{Answering.{both_given, both_told, match_ends, stored_ends}, Common.{Answer, bytes_in, end_from, Err, File, IsAnswerTo, IsSeenFrom}}
+use Rattle.sim_top.proofs.Common.{IsState, List, match_in, Ok, refl, Result, RigsCameBackBy, rules, Setup, shelved, Some, StandForStored, status_made, Stop}
+use Rattle.sim_top.proofs.{Common.{subst, sym, systems_by, to_resight, ◌∙◌, ◌≡◌}, Playing.played_if, Returning.{kind_of_first, one_played, rigs_left, room_for}}
+use Rattle.sim_top.proofs.{Returning.{stands_read, stored_stands, was_played_as}, Sighting.{loads, map_ends, map_goes_on, seen_ended, sight_made, with_map}}
 use Rattle.sim_top.proofs.commands.Equipment.resight.Goals as goal
 
 pub returns-in_err-setup-clause-answer : goal.returns-in_err-setup-clause-answer

@@ -1,9 +1,8 @@
 -- The match and the state were read and played on, or one could not be read.
-use Rattle.sim_top.proofs.Common.{Answer, bytes_in, Done, end_from, Err, File, IsAnswerTo, IsState, List, match_in, Ok, Outcome, printed, refl, Result}
-use Rattle.sim_top.proofs.Common.{resume_text, RigsCameBackBy, rules, Setup, shelved, Some, StandForStored, State, status_made, Stop, subst, sym, systems_by}
-use Rattle.sim_top.proofs.{Answering.Loads, Common.to_resume, Common.◌∙◌, Common.◌≡◌, Playing.played_if, Playing.text_made, Returning.room_for}
-use Rattle.sim_top.proofs.{Answering.both_given, Answering.both_told, Answering.match_ends, Returning.rigs_left, Returning.stands_read, Stopping.Then-ended}
-use Rattle.sim_top.proofs.{Answering.stored_ends, Answering.stored_goes_on, Common.ℕ, Returning.first_played, Returning.kind_of_first, Returning.stored_stands}
+use Rattle.sim_top.proofs.{Answering.{both_given, both_told, Loads, match_ends, stored_ends, stored_goes_on}, Common.{Answer, bytes_in, Done, end_from, Err}}
+use Rattle.sim_top.proofs.Common.{File, IsAnswerTo, IsState, List, match_in, Ok, Outcome, printed, refl, Result, resume_text, RigsCameBackBy, rules, Setup}
+use Rattle.sim_top.proofs.{Common.{shelved, Some, StandForStored, State, status_made, Stop, subst, sym, systems_by, to_resume, ℕ, ◌∙◌, ◌≡◌}, Playing.played_if}
+use Rattle.sim_top.proofs.{Playing.text_made, Returning.{first_played, kind_of_first, rigs_left, room_for, stands_read, stored_stands}, Stopping.Then-ended}
 use Rattle.sim_top.proofs.commands.Equipment.resume.Goals as goal
 
 -- what comes of the state

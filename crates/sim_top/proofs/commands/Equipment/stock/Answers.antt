@@ -1,9 +1,8 @@
 -- The match and its economy were read and the one was played by the other, or one could not be read.
-use Rattle.sim_top.proofs.Common.{Answer, Done, Err, File, IsAnswerTo, List, match_in, paid_state, printed, refl, Result, RigsCameBackBy, rules, Setup, shelved}
-use Rattle.sim_top.proofs.Stocking.{economy_goes_on, paid_stands, stock_opens}
-use Rattle.sim_top.proofs.{Answering.match_ends, Common.Some, Common.StandForPaid, Common.Stop, Common.status_made, Common.stock_text, Common.subst, Common.sym}
-use Rattle.sim_top.proofs.{Common.systems_by, Common.to_stock, Common.◌∙◌, Common.◌≡◌, Playing.played_if, Playing.text_made, Returning.first_played}
-use Rattle.sim_top.proofs.{Returning.kind_of_first, Returning.rigs_left, Returning.room_for, Returning.stands_read, Stocking.economy_ends}
+use Rattle.sim_top.proofs.{Answering.match_ends, Common.{Answer, Done, Err, File, IsAnswerTo, List, match_in, paid_state, printed, refl, Result}}
+use Rattle.sim_top.proofs.Common.{RigsCameBackBy, rules, Setup, shelved, Some, StandForPaid, status_made, stock_text, Stop, subst, sym, systems_by, to_stock}
+use Rattle.sim_top.proofs.{Common.{◌∙◌, ◌≡◌}, Playing.{played_if, text_made}, Returning.{first_played, kind_of_first, rigs_left, room_for, stands_read}}
+use Rattle.sim_top.proofs.Stocking.{economy_ends, economy_goes_on, paid_stands, stock_opens}
 use Rattle.sim_top.proofs.commands.Equipment.stock.Goals as goal
 
 pub returns-in_err-setup-clause-answer : goal.returns-in_err-setup-clause-answer

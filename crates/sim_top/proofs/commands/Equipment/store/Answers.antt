@@ -1,10 +1,9 @@
 -- The match was read and its state stored, or it could not be read, or has not the turn.
-use Rattle.sim_top.proofs.Common.{after, Answer, ap, AreFed, Err, File, HasEnded, IsAnswerTo, IsOutcomeOf, List, match_in, MayFinish, NoSuchTurn, Ok, Outcome}
-use Rattle.sim_top.proofs.Common.{own_turns, printed, refl, refusal_text, Result, RigsCameBackBy, rules, Setup, shelved, Some, State, status_made, Stop}
-use Rattle.sim_top.proofs.Common.{store_outcome, stored_at, subst, sym, systems_by, to_store, Turn, ℕ, ◌∙◌, ◌≡◌}
-use Rattle.sim_top.proofs.Returning.{first_played, kind_of_first, rigs_left, room_for, stands_read, whatever_held}
-use Rattle.sim_top.proofs.{Answering.Opens, Answering.match_ends, Answering.match_goes_on, Answering.match_there, Answering.turn_ends_at, Playing.is_made}
-use Rattle.sim_top.proofs.{Playing.played_if, Playing.store_done, Playing.store_past, Playing.stored_is, Stopping.Then-ended, Stopping.Then-read, Stopping.Told}
+use Rattle.sim_top.proofs.{Answering.{match_ends, match_goes_on, match_there, Opens, turn_ends_at}, Common.{after, Answer, ap, AreFed, Err, File, HasEnded}}
+use Rattle.sim_top.proofs.Common.{IsAnswerTo, IsOutcomeOf, List, match_in, MayFinish, NoSuchTurn, Ok, Outcome, own_turns, printed, refl, refusal_text, Result}
+use Rattle.sim_top.proofs.Common.{RigsCameBackBy, rules, Setup, shelved, Some, State, status_made, Stop, store_outcome, stored_at, subst, sym, systems_by}
+use Rattle.sim_top.proofs.{Common.{to_store, Turn, ℕ, ◌∙◌, ◌≡◌}, Playing.{is_made, played_if, store_done, store_past, stored_is}}
+use Rattle.sim_top.proofs.{Returning.{first_played, kind_of_first, rigs_left, room_for, stands_read, whatever_held}, Stopping.{Then-ended, Then-read, Told}}
 use Rattle.sim_top.proofs.commands.Equipment.store.Goals as goal
 
 -- what comes of the match

@@ -1,10 +1,9 @@
 -- The match of the trial was made and played, or refused.
 use Rattle.sim_top.proofs.commands.Equipment.trial.Goals as goal
-use Rattle.sim_top.proofs.Common.{after, Answer, AreFed, arith, Err, File, IsAnswerTo, List, own_turns, refl, Result, RigsCameBackBy, rules, Setup, Some, State}
-use Rattle.sim_top.proofs.Common.{status_made, Stop, subst, sym, systems_by, to_try, trial_match, trial_outcome, ◌∙◌, ◌≡◌}
-use Rattle.sim_top.proofs.Returning.{first_played, kind_of_first, rigs_left, room_for, stands_read, whatever_held}
-use Rattle.sim_top.proofs.{Answering.trial_ends, Answering.trial_goes_on, Playing.made_if, Playing.text_if, Playing.text_made, Playing.text_of_state}
-use Rattle.{sim_play.specs.Lines.trial_line, sim_top.specs.Stops.HasPlayedBy}
+use Rattle.{sim_play.specs.Lines.trial_line, sim_top.proofs.{Answering.{trial_ends, trial_goes_on}, Common.{after, Answer, AreFed, arith, Err, File}}}
+use Rattle.sim_top.proofs.Common.{IsAnswerTo, List, own_turns, refl, Result, RigsCameBackBy, rules, Setup, Some, State, status_made, Stop, subst, sym}
+use Rattle.sim_top.proofs.{Common.{systems_by, to_try, trial_match, trial_outcome, ◌∙◌, ◌≡◌}, Playing.{made_if, text_if, text_made, text_of_state}}
+use Rattle.sim_top.{proofs.Returning.{first_played, kind_of_first, rigs_left, room_for, stands_read, whatever_held}, specs.Stops.HasPlayedBy}
 
 pub returns-in_err-setup-clause-answer : goal.returns-in_err-setup-clause-answer
 returns-in_err-setup-clause-answer g c =

@@ -1,7 +1,6 @@
 -- The match and both states were read and compared, or one could not be read.
-use Rattle.sim_top.proofs.Answering.{match_ends, stored_ends}
-use Rattle.sim_top.proofs.Common.{◌≡◌, Ok, Err, Result, refl, Answer, IsAnswerTo, match_in, OutOfMemory, rules, shelved, Stop, subst, sym, to_compare}
-use Rattle.sim_top.proofs.Comparing.{gave_first, loads, second_ends, second_goes_on, with_second}
+use Rattle.sim_top.proofs.{Answering.{match_ends, stored_ends}, Common.{Answer, Err, IsAnswerTo, match_in, Ok, OutOfMemory, refl, Result, rules, shelved, Stop}}
+use Rattle.sim_top.proofs.{Common.{subst, sym, to_compare, ◌≡◌}, Comparing.{gave_first, loads, second_ends, second_goes_on, with_second}}
 use Rattle.sim_top.proofs.commands.comparing.compare.Goals as goal
 
 pub returns-in_err-setup : goal.returns-in_err-setup

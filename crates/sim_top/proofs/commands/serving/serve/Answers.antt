@@ -1,8 +1,7 @@
 -- The schedule was read and served, or it could not be read.
-use Rattle.sim_session.specs.Served.{served_text}
-use Rattle.sim_top.proofs.{Answering.comes_to, Answering.list_ends_at, Common.shelved, Common.Stop, Common.Stopped, Common.subst, Common.sym, Common.to_serve}
-use Rattle.sim_top.proofs.{Playing.text_made, Stopping.Stopped-weaker, Stopping.Then-ended, Stopping.Then-read, Stopping.Told}
-use Rattle.sim_top.proofs.Common.{◌≡◌, Some, Ok, Err, Result, refl, Answer, Done, IsAnswerTo, IsOutcomeOf, Outcome, printed, rules, Schedule, schedule_in}
+use Rattle.{sim_session.specs.Served.served_text, sim_top.proofs.Answering.{comes_to, list_ends_at}}
+use Rattle.sim_top.proofs.Common.{Answer, Done, Err, IsAnswerTo, IsOutcomeOf, Ok, Outcome, printed, refl, Result, rules, Schedule, schedule_in, shelved, Some}
+use Rattle.sim_top.proofs.{Common.{Stop, Stopped, subst, sym, to_serve, ◌≡◌}, Playing.text_made, Stopping.{Stopped-weaker, Then-ended, Then-read, Told}}
 
 -- what comes of the schedule
 abbrev served : Schedule → Outcome → Type 0

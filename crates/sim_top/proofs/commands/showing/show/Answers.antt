@@ -1,8 +1,7 @@
 -- The match and the state were read and shown, or one could not be read.
-use Rattle.sim_report.specs.Show.{show_text}
-use Rattle.sim_top.proofs.{Answering.both_given, Answering.Loads, Answering.match_ends, Answering.stored_ends, Answering.stored_goes_on, Stopping.Then-ended}
-use Rattle.sim_top.proofs.{Common.Stop, Common.subst, Common.sym, Common.to_show, Playing.text_made}
-use Rattle.sim_top.proofs.Common.{◌≡◌, ℕ, List, Err, Result, refl, Answer, Done, File, IsAnswerTo, match_in, Outcome, printed, rules, Setup, shelved, State}
+use Rattle.{sim_report.specs.Show.show_text, sim_top.proofs.Answering.{both_given, Loads, match_ends, stored_ends, stored_goes_on}}
+use Rattle.sim_top.proofs.Common.{Answer, Done, Err, File, IsAnswerTo, List, match_in, Outcome, printed, refl, Result, rules, Setup, shelved, State, Stop}
+use Rattle.sim_top.proofs.{Common.{subst, sym, to_show, ℕ, ◌≡◌}, Playing.text_made, Stopping.Then-ended}
 use Rattle.sim_top.proofs.commands.showing.show.Goals as goal
 
 -- what comes of the state

@@ -1,7 +1,6 @@
 -- Where the marks are those of the state there are no shifts. The marks of a state ascend, as the ids of its rows do.
 use Rattle.sim_trail.proofs.trail.Trail.follow.Goals as goal
-use Rattle.sim_trail.proofs.Merging.{marks_ascend, no_shifts}
-use Rattle.sim_trail.specs.{Shifts.IsAscending, Shifts.mark_of, Shifts.marks_of, Shifts.shifts_between, declared.mark.Mark.Mark}
+use Rattle.sim_trail.{proofs.Merging.{marks_ascend, no_shifts}, specs.{declared.mark.Mark.Mark, Shifts.{IsAscending, mark_of, marks_of, shifts_between}}}
 use Rattle.std.proofs.Common.{ap, List, map, subst, sym, ◌∙◌, ◌≡◌}
 
 pub returns-then-are_marks_of-clause-shifts : goal.returns-then-are_marks_of-clause-shifts

@@ -1,6 +1,5 @@
-use Rattle.sim_tree.proofs.Common.{◌-◌, ◌∙◌, ◌∷◌, ◌≡◌, ap, arith, child_named, drop, drop_more, length, List, node_of, None, rules, Some, sym, under, value_at}
-use Rattle.sim_tree.proofs.{Common.ℕ, Steps.at_child_of, Steps.at_no_child}
-use Rattle.std.proofs.{Common.take, lemmas.List.length-drop, lemmas.List.take_all}
+use Rattle.sim_tree.proofs.Common.{ap, arith, child_named, drop, drop_more, length, List, node_of, None, rules, Some, sym, under, value_at, ℕ, ◌-◌, ◌∙◌, ◌∷◌}
+use Rattle.{sim_tree.proofs.{Common.◌≡◌, Steps.{at_child_of, at_no_child}}, std.proofs.{Common.take, lemmas.List.{length-drop, take_all}}}
 
 pub returns-in_err-child-in-len1-up : Rattle.sim_tree.proofs.tree.Tree.+at.Goals.returns-in_err-child-in-len1-up
 returns-in_err-child-in-len1-up t c =

@@ -1,6 +1,5 @@
 -- A crossing is told, and what is left can be followed.
-use Rattle.sim_vision.proofs.Common.{Extent, extent_of, IsKnownCrossing, IsTurned, subst, sym, ◌∙◌}
-use Rattle.sim_vision.proofs.Following.{goes_on, known_crossing}
+use Rattle.sim_vision.proofs.{Common.{Extent, extent_of, IsKnownCrossing, IsTurned, subst, sym, ◌∙◌}, Following.{goes_on, known_crossing}}
 
 pub turn-requires-clause-known : Rattle.sim_vision.proofs.fog.Fog.follow.Goals.turn-requires-clause-known
 turn-requires-clause-known c =

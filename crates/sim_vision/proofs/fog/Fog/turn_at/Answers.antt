@@ -1,6 +1,5 @@
 -- The cells of the row are those that the marks see there.
-use Rattle.sim_vision.proofs.Common.{◌≡◌, length, refl, ap, arith, extent_of}
-use Rattle.sim_vision.proofs.Written.{counted, room, same_turned, seen, turned, written_back}
+use Rattle.sim_vision.proofs.{Common.{ap, arith, extent_of, length, refl, ◌≡◌}, Written.{counted, room, same_turned, seen, turned, written_back}}
 use Rattle.sim_vision.proofs.fog.Fog.turn_at.Goals as goal
 
 pub turn_row-requires-clause-counted : goal.turn_row-requires-clause-counted

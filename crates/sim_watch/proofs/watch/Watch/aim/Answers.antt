@@ -1,6 +1,5 @@
 -- The groups after the change are those of the facts after it.
-use Rattle.sim_watch.proofs.Aiming.{aimed_groups, gone_groups}
-use Rattle.sim_watch.proofs.Common.{ℕ, List, aim_of, Aimer, ap, fact_with, facts_in, kept, sym, Watch, with_only, ◌∙◌}
+use Rattle.sim_watch.proofs.{Aiming.{aimed_groups, gone_groups}, Common.{aim_of, Aimer, ap, fact_with, facts_in, kept, List, sym, Watch, with_only, ℕ, ◌∙◌}}
 use Rattle.sim_watch.proofs.watch.Watch.aim.Goals as goal
 
 pub returns-then-to-eq0-clause-ok : goal.returns-then-to-eq0-clause-ok

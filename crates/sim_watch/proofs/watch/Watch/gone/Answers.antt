@@ -1,6 +1,5 @@
 -- The groups after the change are those of the facts after it.
-use Rattle.sim_fact_lists.{proofs.Keyed.gone_with_last, specs.Groups.group_with}
-use Rattle.sim_watch.proofs.{Aiming.gone_groups, Common.ap, Common.sym, Common.◌∙◌}
+use Rattle.{sim_fact_lists.{proofs.Keyed.gone_with_last, specs.Groups.group_with}, sim_watch.proofs.{Aiming.gone_groups, Common.{ap, sym, ◌∙◌}}}
 
 pub invariant_of-self : Rattle.sim_watch.proofs.watch.Watch.gone.Goals.invariant_of-self
 invariant_of-self c =

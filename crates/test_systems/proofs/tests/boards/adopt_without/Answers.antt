@@ -1,6 +1,5 @@
 -- A state that is valid is loosely so, and the one change fits it.
-use Rattle.std.proofs.Common.{sym}
-use Rattle.{sim_base.specs.Limits.IsLooselyValid, sim_base.specs.declared.setup.Setup.Setup, sim_laws.proofs.Validity.valid_is_loose, std.proofs.Common.subst}
+use Rattle.{sim_base.specs.{declared.setup.Setup.Setup, Limits.IsLooselyValid}, sim_laws.proofs.Validity.valid_is_loose, std.proofs.Common.{subst, sym}}
 
 pub can_leave-requires : Rattle.test_systems.proofs.tests.boards.adopt_without.Goals.can_leave-requires
 can_leave-requires g c = subst (λ (s : Setup). IsLooselyValid s c.args.state) (sym c.setup.ensures)

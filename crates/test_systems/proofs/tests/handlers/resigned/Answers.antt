@@ -1,6 +1,5 @@
-use Rattle.{sim_base.specs.declared.change.Change.TheVariants.Owner, sim_base.specs.declared.state.Row.Row, std.specs.Prelude.◌==◌}
-use Rattle.std.proofs.Common.{cond, List, [], ◌∷◌, flat_map, ap}
-use Rattle.sim_orders.proofs.Planning.{answers_same, plan_fulfils, resigns}
+use Rattle.{sim_base.specs.declared.{change.Change.TheVariants.Owner, state.Row.Row}, sim_orders.proofs.Planning.{answers_same, plan_fulfils, resigns}}
+use Rattle.std.{proofs.Common.{ap, cond, flat_map, List, [], ◌∷◌}, specs.Prelude.◌==◌}
 
 pub returns : Rattle.test_systems.proofs.tests.handlers.resigned.Goals.returns
 returns c =
